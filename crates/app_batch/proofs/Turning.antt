@@ -2,14 +2,12 @@
 use Rattle.std.proofs.Common.{◌≡◌, ◌≢◌, ℕ, List, [], ◌∷◌, ◌++◌, Option, None, Some, Result, Ok, Err, ◌∙◌, ap, refl, sym, subst}
 use Rattle.std.proofs.KnownBytes.{Appends-nil, Appends-trans}
 use Rattle.std.specs.Prelude.{◌==◌, if◌then◌else◌, IfErr, IfOk, IfSome, IsErr, OnOk, unwrap_or}
-use Rattle.std.specs.Io.BufRead.{DropsThrough, drop_through, first_piece}
 use Rattle.std.specs.Io.Buffered.{reader_buffer, reader_capacity, reader_inner, reader_remaining}
-use Rattle.std.specs.Io.KnownBytes.{Appends, IsAtEnd, prepend_known}
-use Rattle.std.specs.declared.io.buffered.BufReader.{BufReader}
+use Rattle.std.specs.{Io.BufRead.DropsThrough, Io.BufRead.drop_through, Io.BufRead.first_piece, Io.KnownBytes.Appends, Io.KnownBytes.IsAtEnd}
+use Rattle.std.specs.{Io.KnownBytes.prepend_known, declared.io.buffered.BufReader.BufReader}
 use Rattle.app_batch.specs.InTurn.{AnswersEach, AnswersFirst, AnswersLine, AnswersLines, AreLines, IsNextLine, Stops, StopsBehind, no_line, not_one}
 use Rattle.app_batch.specs.InTurn.{one_line_more, one_more, silent, unwritten}
-use Rattle.app_batch.specs.Said.{Answered, Says}
-use Rattle.app_batch.specs.declared.fault.AnswerFault.{AnswerFault}
+use Rattle.app_batch.specs.{Said.Answered, Said.Says, declared.fault.AnswerFault.AnswerFault}
 use Rattle.desk.specs.State.{DeskState}
 use Rattle.store_api.specs.Sight.{Sight}
 

@@ -1,9 +1,7 @@
 -- What answering the lines of a reader, one after the other, does to a desk and a writer.
 use Rattle.std.specs.Prelude.{◌≡◌, ◌≢◌, ℕ, List, [], ◌∷◌, ◌++◌, Option, Result, Ok, Err, IfSome}
-use Rattle.std.specs.Io.BufRead.{drop_through, first_piece}
-use Rattle.std.specs.Io.KnownBytes.{Appends}
-use Rattle.app_batch.specs.Said.{Says, SaysNothing}
-use Rattle.app_batch.specs.declared.fault.AnswerFault.{AnswerFault}
+use Rattle.std.specs.{Io.BufRead.drop_through, Io.BufRead.first_piece, Io.KnownBytes.Appends}
+use Rattle.app_batch.specs.{Said.Says, Said.SaysNothing, declared.fault.AnswerFault.AnswerFault}
 use Rattle.desk.specs.State.{DeskState}
 use Rattle.store_api.specs.Sight.{Sight}
 

@@ -1,11 +1,9 @@
 -- What is said to a line of a batch, by a desk over any store.
 use Rattle.std.specs.Prelude.{◌≡◌, ◌⊎◌, ℕ, List, Result, Ok, Err, MatchResult}
 use Rattle.desk_model.specs.declared.reply.Reply.{Reply}
-use Rattle.http_routes.specs.Lines.{Spells, line_text}
-use Rattle.http_routes.specs.{Request.refused_reply, Request.unshown, declared.lines.Line.Line, declared.request.Request.Request}
+use Rattle.http_routes.specs.{Lines.Spells, Lines.line_text, Request.refused_reply, Request.unshown, declared.lines.Line.Line, declared.request.Request.Request}
 use Rattle.http_routes.specs.declared.request.Request.TheVariants as request
-use Rattle.app_batch.specs.LineRequests.{IsRequestOf, call_of}
-use Rattle.app_batch.specs.declared.fault.AnswerFault.{AnswerFault}
+use Rattle.app_batch.specs.{LineRequests.IsRequestOf, LineRequests.call_of, declared.fault.AnswerFault.AnswerFault}
 use Rattle.app_batch.specs.declared.fault.AnswerFault.TheVariants as answerfault
 use Rattle.desk.specs.{Meets.Meets, State.DeskState, declared.fault.DeskFault.DeskFault}
 use Rattle.store_api.specs.Sight.{Sight}

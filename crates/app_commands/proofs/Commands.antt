@@ -4,19 +4,16 @@ use Rattle.std.specs.Prelude.{MatchOption, MatchResult}
 use Rattle.sqlite.specs.Recovery.{Image}
 use Rattle.sqlite_disk.specs.declared.Disk as disk
 use Rattle.app_words.specs.declared.command.{Command.Command, Report.Report, Syncs.Syncs}
-use Rattle.app_tasks.specs.{Filters.IsUnasked, Faults.IsOfDesk, declared.filters.Unasked.Unasked, declared.fault.Fault.Fault}
 use Rattle.app_tasks.specs.Deeds.{ChecksStatuses, ListsRows, form_of}
+use Rattle.app_tasks.specs.{Filters.IsUnasked, Faults.IsOfDesk, declared.filters.Unasked.Unasked, declared.fault.Fault.Fault, Doing.Deed}
 use Rattle.app_commands.specs.Statuses.{BySyncs, Ends, EndsList, EndsMake, EndsOverFiles, EndsReport, EndsUnasked, IsToldMade, terms_in_memory}
 use Rattle.app_tasks.specs.declared.filters.Unasked.TheVariants as unasked
 use Rattle.app_tasks.specs.declared.fault.Fault.TheVariants as fault
 use Rattle.desk.specs.declared.fault.DeskFault.TheVariants as deskfault
-use Rattle.desk_model.specs.Tables.{Tables}
-use Rattle.desk_model.specs.Terms.{Terms, are_terms}
+use Rattle.desk_model.specs.{Tables.Tables, Terms.Terms, Terms.are_terms}
 use Rattle.store_api.specs.declared.fault.StorageFault.TheVariants.{Memory}
 use Rattle.desk_store.specs.declared.open_fault.{OpenFault.OpenFault, OpenFault.TheVariants.Storage}
-use Rattle.app_files.specs.declared.left.Left.{Left}
-use Rattle.app_tasks.specs.Doing.{Deed}
-use Rattle.app_files.specs.Endings.{EndsInMemory, EndsMaking, unmade_in_memory}
+use Rattle.app_files.specs.{declared.left.Left.Left, Endings.EndsInMemory, Endings.EndsMaking, Endings.unmade_in_memory}
 use Rattle.app_reports.specs.{Listed.roster, declared.form.Form.Form}
 
 module _ {D : Type 0} (g : disk.Ghosts D) (image : Image) (bytes was is : Option (List ℕ)) where

@@ -4,28 +4,24 @@ use Rattle.std.specs.Prelude.{if◌then◌else◌}
 use Rattle.sqlite.specs.Recovery.{Image}
 use Rattle.sqlite_disk.specs.declared.Disk as disk
 use Rattle.app_words.specs.declared.command.{Command.Command, Report.Report, Revocation.Revocation, Serving.Serving}
+use Rattle.app_words.specs.declared.fault.WordsFault.{WordsFault}
 use Rattle.app_words.specs.declared.command.Report.TheVariants as report
 use Rattle.app_words.specs.declared.command.Command.TheVariants as command
-use Rattle.app_words.specs.declared.fault.WordsFault.{WordsFault}
 use Rattle.app_words.specs.declared.fault.WordsFault.TheVariants as wordsfault
-use Rattle.app_tasks.specs.Looking.{LooksServed, shown, shown_status, unasked, unwritten}
-use Rattle.app_tasks.specs.Looking as looked
-use Rattle.app_tasks.specs.Asked.{IsSaid, RevokesServed, refused, revoked, unheard}
 use Rattle.app_tasks.specs.Deeds.{AnswersReader, ChecksStatuses, ListsRows, RevokesTarget, ServesClients, TellsAbout, TellsPage, AnswersLines, ByDesk, IsTold}
-use Rattle.app_tasks.specs.Deeds.{Revokes, Serves, ServesByMoment, ServesUnlessAhead, adopted, clocked, clockless, served, unadopted, unserved}
-use Rattle.app_tasks.specs.Deeds.{IsUntaken, how_checked, how_listed, how_served}
-use Rattle.app_tasks.specs.{Faults.IsOfDesk, declared.fault.Fault.Fault}
+use Rattle.app_tasks.specs.Deeds.{Revokes, Serves, ServesByMoment, ServesUnlessAhead, adopted, clocked, clockless, served, unadopted, unserved, IsUntaken}
+use Rattle.app_tasks.specs.Deeds.{how_checked, how_listed, how_served, form_of}
+use Rattle.app_tasks.specs.{Looking.LooksServed, Looking.shown, Looking.shown_status, Looking.unasked, Looking.unwritten, Asked.IsSaid, Asked.RevokesServed}
+use Rattle.app_tasks.specs.{Asked.refused, Asked.revoked, Asked.unheard, Faults.IsOfDesk, declared.fault.Fault.Fault, GivenTerms.terms_of, Doing.Deed}
+use Rattle.app_tasks.specs.Looking as looked
 use Rattle.app_commands.specs.Statuses.{CopiesChecked, EndsBackUp, EndsBackUpServed, EndsReport, EndsRestore, IsToldCopied, IsToldWords}
 use Rattle.app_commands.specs.Statuses.{Ends, EndsBy, EndsList, EndsMake, EndsOverFiles, IsToldMade, status_of, terms_in_memory}
-use Rattle.app_tasks.specs.{Deeds.form_of, GivenTerms.terms_of}
 use Rattle.desk_http.specs.declared.serve_fault.ServeFault.{ServeFault}
 use Rattle.desk.specs.{State.DeskState, declared.fault.DeskFault.DeskFault}
 use Rattle.desk_model.specs.{Terms.Terms, declared.refusal.Refusal.Refusal}
 use Rattle.store_api.specs.{Sight.Sight, Storing.Causes}
 use Rattle.desk_store.specs.declared.open_fault.OpenFault.{OpenFault}
-use Rattle.app_files.specs.declared.left.Left.{Left}
-use Rattle.app_tasks.specs.Doing.{Deed}
-use Rattle.app_files.specs.Endings.{EndsInMemory, unopened}
+use Rattle.app_files.specs.{declared.left.Left.Left, Endings.EndsInMemory, Endings.unopened}
 use Rattle.app_files.specs.Endings as ending
 use Rattle.app_reports.specs.declared.{fault.ReportFault.ReportFault, beside.Beside.Beside, faults.Checked.Checked, form.Form.Form}
 use Rattle.app_reports.specs.Listed.{Roster, accounts_roster, authorizations_roster, orders_roster}

@@ -3,35 +3,30 @@ use Rattle.std.specs.Prelude.{◌≡◌, ◌≢◌, ◌⊎◌, ℕ, Bool, List, 
 use Rattle.std.specs.Io.KnownBytes.{Appends}
 use Rattle.sqlite.specs.Recovery.{Image}
 use Rattle.sqlite_disk.specs.declared.Disk as disk
-use Rattle.app_words.specs.declared.command.{AuthorizationListing.AuthorizationListing, OrderListing.OrderListing, Command.Command}
-use Rattle.app_words.specs.declared.command.{Report.Report, Serving.Serving, Syncs.Syncs}
+use Rattle.app_words.specs.{declared.command.AuthorizationListing.AuthorizationListing, declared.command.OrderListing.OrderListing}
+use Rattle.app_words.specs.{declared.command.Command.Command, declared.command.Report.Report, declared.command.Serving.Serving, declared.command.Syncs.Syncs}
+use Rattle.app_words.specs.{declared.command.Revocation.Revocation, declared.fault.WordsFault.WordsFault}
 use Rattle.app_words.specs.declared.command.Report.TheVariants as report
 use Rattle.app_words.specs.declared.command.Command.TheVariants as command
-use Rattle.app_words.specs.declared.command.Revocation.{Revocation}
 use Rattle.desk_http.specs.declared.serve_fault.ServeFault.TheVariants as servefault
 use Rattle.app_words.specs.declared.command.Syncs.TheVariants as syncs
-use Rattle.app_words.specs.declared.fault.WordsFault.{WordsFault}
 use Rattle.app_words.specs.declared.fault.WordsFault.TheVariants as wordsfault
-use Rattle.app_tasks.specs.{Asked.RevokesServed, Looking.LooksServed, declared.filters.Unasked.Unasked, declared.fault.Fault.Fault}
 use Rattle.app_tasks.specs.Filters.{AreRight, AsksForAuthorizations, AsksForOrders, StandsForName}
 use Rattle.app_tasks.specs.Deeds.{AnswersReader, ChecksStatuses, ListsRows, RevokesTarget, ServesClients, TellsAbout, TellsPage, form_of}
-use Rattle.app_tasks.specs.{Faults.IsOfLog, Faults.IsOfDesk, GivenTerms.terms_of}
+use Rattle.app_tasks.specs.{Asked.RevokesServed, Looking.LooksServed, declared.filters.Unasked.Unasked, declared.fault.Fault.Fault, Faults.IsOfLog}
+use Rattle.app_tasks.specs.{Faults.IsOfDesk, GivenTerms.terms_of, Doing.Deed, declared.copies.CopyFault.CopyFault}
 use Rattle.app_tasks.specs.declared.filters.Unasked.TheVariants as unasked
 use Rattle.app_tasks.specs.declared.fault.Fault.TheVariants as fault
 use Rattle.desk_model.specs.Terms.{Terms, are_terms}
 use Rattle.desk_store.specs.declared.open_fault.OpenFault.{OpenFault}
 use Rattle.desk.specs.declared.fault.DeskFault.{DeskFault}
 use Rattle.desk.specs.declared.fault.DeskFault.TheVariants as deskfault
-use Rattle.app_files.specs.declared.left.Left.{Left}
-use Rattle.app_tasks.specs.{Doing.Deed, declared.copies.CopyFault.CopyFault}
-use Rattle.app_files.specs.Endings.{EndsInMemory, EndsMaking, EndsOver}
-use Rattle.app_files.specs.Faults.{open_fault}
+use Rattle.app_files.specs.{declared.left.Left.Left, Endings.EndsInMemory, Endings.EndsMaking, Endings.EndsOver, Faults.open_fault}
 use Rattle.app_tasks.specs.declared.copies.CopyFault.TheVariants as copyfault
 use Rattle.app_files.specs.declared.left.Left.TheVariants as rest
 use Rattle.app_reports.specs.Listed.{accounts_roster, authorizations_roster, orders_roster}
-use Rattle.app_reports.specs.declared.{asked.AuthorizationFilter.AuthorizationFilter, beside.Beside.Beside}
+use Rattle.app_reports.specs.{declared.asked.AuthorizationFilter.AuthorizationFilter, declared.beside.Beside.Beside, declared.asked.OrderFilter.OrderFilter}
 use Rattle.app_reports.specs.declared.form.Form.TheVariants as form
-use Rattle.app_reports.specs.declared.asked.OrderFilter.{OrderFilter}
 
 -- the terms of a desk in memory
 abbrev pub terms_in_memory : Terms

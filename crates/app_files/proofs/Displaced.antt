@@ -6,8 +6,7 @@ use Rattle.sqlite_disk.specs.declared.Disk as disk
 use Rattle.sqlite_store.specs.declared.store.FileStore.{FileStore}
 use Rattle.desk_files.specs.Opening.{OpensFiles, OpensKnown}
 use Rattle.desk_store.specs.declared.{open_fault.OpenFault.OpenFault, store.Store.Store}
-use Rattle.app_files.specs.Endings.{IsDisplaced, IsUnopened}
-use Rattle.app_files.specs.declared.left.Left.{Left}
+use Rattle.app_files.specs.{Endings.IsDisplaced, Endings.IsUnopened, declared.left.Left.Left}
 
 -- what is so of a store is so of the one that is given
 pub of_same : {A E : Type 0} (P : A → Type 0) (result : Result A E) (store : A) → IfOk result (λ given. given ≡ store) → P store → IfOk result P

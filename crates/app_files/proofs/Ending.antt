@@ -8,8 +8,7 @@ use Rattle.desk_files.specs.Opening.{FailedToMakeOver, FailsToMake, FoundNothing
 use Rattle.desk_files.specs.declared.opening.NotOpened.{NotOpened}
 use Rattle.desk_model.specs.Terms.{Terms}
 use Rattle.desk_store.specs.{Making.IsOfStorage, declared.open_fault.OpenFault.OpenFault, declared.store.Store.Store}
-use Rattle.app_files.specs.Endings.{EndsMaking, IsLeft, made, unmade}
-use Rattle.app_files.specs.declared.left.Left.{Left}
+use Rattle.app_files.specs.{Endings.EndsMaking, Endings.IsLeft, Endings.made, Endings.unmade, declared.left.Left.Left}
 use Rattle.app_files.specs.declared.left.Left.TheVariants as rest
 
 module _ {D : Type 0} {g : disk.Ghosts D} (bytes : Image) (policy : Terms) (at : ℕ) where

@@ -5,10 +5,9 @@ use Rattle.sqlite_disk.specs.declared.Disk as disk
 use Rattle.sqlite_disk.specs.declared.Files.{Files}
 use Rattle.sqlite_store.specs.declared.store.FileStore.{FileStore}
 use Rattle.sqlite_trees.specs.declared.memory.MemStore.{MemStore}
-use Rattle.desk_files.specs.Closing.{EndsAsStop, KeepsInFile, WasHonest}
 use Rattle.desk_files.specs.Opening.{FailedOver, FailedToMakeOver, FailsToMake, FoundNothing, LeavesAnOpening, LeavesAsFound, MakesFiles, OpensFiles}
 use Rattle.desk_files.specs.Opening.{OpensKnown, RefusedBy, RefusesNoDatabase, RefusesNoDesk, RefusesObjects}
-use Rattle.desk_files.specs.declared.opening.NotOpened.{NotOpened}
+use Rattle.desk_files.specs.{Closing.EndsAsStop, Closing.KeepsInFile, Closing.WasHonest, declared.opening.NotOpened.NotOpened}
 use Rattle.desk.specs.declared.fault.DeskFault.{DeskFault}
 use Rattle.desk_model.specs.{History.first_history, Tables.picture, Terms.Terms}
 use Rattle.store_api.specs.Sight.{Keeps}

@@ -42,8 +42,8 @@ impl<D: Disk + Drop> Drop for HeldFile<D> {
 /// # Errors
 ///
 /// `NotADesk` where the file holds something else than a desk, where it is missing or empty and a log stands there that holds
-/// something, or where it has the name of what stands beside another file; `NewerFormat` where it holds a desk of a later format; `Storage` where the file or its store failed, or another program
-/// has it; with what is left of the files.
+/// something, or where it has the name of what stands beside another file; `NewerFormat` where it holds a desk of a later format;
+/// `Storage` where the file or its store failed, or another program has it; with what is left of the files.
 pub fn hold<S: Start>(
     rt: &HostRuntime,
     path: &str,

@@ -1,12 +1,10 @@
 -- What a call promises by a part of what a stop leaves, it promises by the whole.
 use Rattle.std.proofs.Common.{◌≡◌, Result, Ok, Err, inl, inr}
 use Rattle.std.specs.Prelude.{IfErr, false}
-use Rattle.desk_model.specs.{Entry.History, declared.call.Call.Call, declared.reply.Reply.Reply}
-use Rattle.desk_model.specs.Tables.{Tables, picture}
+use Rattle.desk_model.specs.{Entry.History, declared.call.Call.Call, declared.reply.Reply.Reply, Tables.Tables, Tables.picture}
 use Rattle.store_api.specs.Sight.{Sight, Unchanged}
 use Rattle.desk.specs.Answers.{Answers, Exits, ExitsBy, IsBroken, IsDeclined, IsEither}
-use Rattle.desk.specs.{Faults.closes, declared.fault.DeskFault.DeskFault}
-use Rattle.desk.specs.Seen.{IsExit, IsExitInPlace}
+use Rattle.desk.specs.{Faults.closes, declared.fault.DeskFault.DeskFault, Seen.IsExit, Seen.IsExitInPlace}
 use Rattle.desk.specs.declared.fault.DeskFault.TheVariants as deskfault
 use Rattle.desk_files.specs.LeftFiles.{sight_within}
 use Rattle.desk_files.proofs.Finding.{keeps_within}

@@ -1,9 +1,7 @@
 -- Calls to a desk, one after the other.
 use Rattle.std.proofs.Common.{◌≡◌, ◌⊎◌, List, [], ◌∷◌, Bool, true, false, Result, Ok, Err, IsTrue, ap, inl, inr, refl, subst, sym}
-use Rattle.desk.specs.Answers.{Exits, IsEither}
-use Rattle.desk.specs.{Faults.closes, State.DeskState, declared.fault.DeskFault.DeskFault}
-use Rattle.desk.specs.Meets.{ActsOnce, Meets}
-use Rattle.desk.specs.Seen.{Told, replied}
+use Rattle.desk.specs.{Answers.Exits, Answers.IsEither, Faults.closes, State.DeskState, declared.fault.DeskFault.DeskFault, Meets.ActsOnce, Meets.Meets}
+use Rattle.desk.specs.{Seen.Told, Seen.replied}
 use Rattle.desk.specs.declared.fault.DeskFault.TheVariants as deskfault
 use Rattle.model_lives.proofs.Extends.{histories_are_legal}
 use Rattle.desk_model.specs.{Entry.History, Legal.Legal, Run.IsFormedCall, Tables.picture, declared.call.Call.Call, declared.reply.Reply.Reply}

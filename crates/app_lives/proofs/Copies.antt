@@ -1,13 +1,11 @@
 -- A copy that is told as made is one of a file that holds the desk.
 use Rattle.std.proofs.Common.{◌≡◌, inl, inr, ℕ, zero, suc, List, [], Option, Result, Ok, Err, refl, subst, sym}
 use Rattle.std.specs.Prelude.{OnOk}
-use Rattle.sqlite.specs.Files.{image_of, over_files}
-use Rattle.sqlite.specs.{Recovery.Image, WalReads.AreClean}
+use Rattle.sqlite.specs.{Files.image_of, Files.over_files, Recovery.Image, WalReads.AreClean}
 use Rattle.sqlite_disk.specs.declared.Disk as disk
 use Rattle.sqlite_disk.specs.declared.Files.{Files}
 use Rattle.sqlite_store.specs.declared.store.FileStore.{FileStore}
-use Rattle.app_tasks.specs.Deeds.{ChecksStatuses, how_checked}
-use Rattle.app_tasks.specs.{Faults.IsOfDesk, declared.fault.Fault.Fault}
+use Rattle.app_tasks.specs.{Deeds.ChecksStatuses, Deeds.how_checked, Faults.IsOfDesk, declared.fault.Fault.Fault}
 use Rattle.app_commands.specs.Statuses.{CopiesChecked, EndsBackUp, EndsOverFiles, EndsRestore, IsToldCopied}
 use Rattle.desk_model.specs.{Entry.History, Tables.picture}
 use Rattle.desk_files.specs.LeftFiles.{HoldDesk, LeftFiles, file_sight}

@@ -4,26 +4,21 @@ use Rattle.std.proofs.Math.Logic.{∥∥₁_map}
 use Rattle.sqlite.specs.{Files.over_files, Recovery.Image}
 use Rattle.sqlite_disk.specs.declared.Disk as disk
 use Rattle.app_tasks.specs.Deeds.{AnswersReader, ChecksStatuses, ListsRows, RevokesTarget, ServesClients, TellsAbout, TellsPage}
-use Rattle.app_tasks.specs.declared.fault.Fault.{Fault}
+use Rattle.app_tasks.specs.{declared.fault.Fault.Fault, Doing.Doing}
 use Rattle.desk.specs.Seen.{Told}
 use Rattle.model_lives.proofs.Extends.{histories_are_legal}
-use Rattle.desk_model.specs.{Entry.History, History.first_history, Legal.Legal, Tables.picture}
-use Rattle.desk_model.specs.Terms.{Terms, are_terms}
 use Rattle.desk_model.specs.Life.{Reopened, history, kept_calls}
-use Rattle.desk_files.proofs.Finding.{in_todays, opening_keeps}
-use Rattle.desk_files.proofs.Refused.{if_there}
+use Rattle.desk_model.specs.{Entry.History, History.first_history, Legal.Legal, Tables.picture, Terms.Terms, Terms.are_terms}
+use Rattle.desk_files.proofs.{Finding.in_todays, Finding.opening_keeps, Refused.if_there}
 use Rattle.desk_files.specs.LeftFiles.{LeftFiles, file_sight}
 use Rattle.desk_store.specs.Desks.{AreOfDesk, store_sight}
 use Rattle.app_commands.specs.Statuses.{EndsBackUp, EndsRestore}
 use Rattle.app_files.specs.{Endings.IsDoneOver, declared.left.Left.Left}
-use Rattle.app_tasks.specs.Doing.{Doing}
 use Rattle.app_reports.specs.Listed.{accounts_roster, authorizations_roster, orders_roster}
-use Rattle.app_lives.proofs.Joined.{history_on, kept_on, lives_on, replied_on}
-use Rattle.app_lives.proofs.Leaving.{words_leave}
+use Rattle.app_lives.proofs.{Joined.history_on, Joined.kept_on, Joined.lives_on, Joined.replied_on, Leaving.words_leave}
 use Rattle.app_lives.specs.Again.{BeginsLife, CopiesGoOn, GoesOn, HasLives, MayBeginLife, StaysOn, StaysUnopened, StaysUntilReplaced, WordsGoOn}
-use Rattle.app_lives.specs.Kept.{HasLife}
 use Rattle.app_lives.specs.Left.{CopiesHoldDesk, IsOver, LeavesAsIs, LeavesLife, LivesOn, StoresHoldDesk, WordsLeave}
-use Rattle.app_lives.specs.Told.{TellsAny, TellsBatch, TellsRevocation}
+use Rattle.app_lives.specs.{Kept.HasLife, Told.TellsAny, Told.TellsBatch, Told.TellsRevocation}
 
 -- the life of all words before has one more word
 with_word : {D : Type 0} (g : disk.Ghosts D) (F : History) (words : List (List Told)) (files left : LeftFiles) (told : List Told)

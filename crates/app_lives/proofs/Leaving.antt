@@ -1,43 +1,37 @@
 -- The words of the program as calls to a desk, and what they leave of its files.
 use Rattle.std.proofs.{KnownBytes.Appends-nil, Common.unwrap_or}
-use Rattle.std.specs.Prelude.{IfSome}
 use Rattle.std.proofs.Common.{◌≡◌, ◌∙◌, ◌⊎◌, ℕ, zero, suc, List, [], ◌∷◌, ◌++◌, false, true, Option, None, Some, Result, Ok, Err, inl, inr, refl, subst, sym}
+use Rattle.std.specs.Prelude.{IfSome}
 use Rattle.sqlite.specs.{Files.over_files, Recovery.Image, Tree.Trees}
 use Rattle.sqlite_disk.specs.declared.Disk as disk
 use Rattle.sqlite_store.specs.declared.store.FileStore.{FileStore}
 use Rattle.app_batch.specs.InTurn as batch
-use Rattle.app_batch.specs.LineRequests.{IsRequestOf, call_of}
 use Rattle.app_batch.specs.Said.{DeclinesTo, LacksMemory, RepliesTo, SaysNothing}
-use Rattle.app_batch.specs.declared.fault.AnswerFault.{AnswerFault}
-use Rattle.app_batch.specs.declared.fault.AnswerFault.TheVariants as answerfault
 use Rattle.app_batch.specs.InTurn.{AnswersEach, AnswersFirst, AreLines, IsNextLine, Stops, StopsAt, StopsBehind, not_one, one_more, silent, unread, untold}
 use Rattle.app_batch.specs.InTurn.{unwritten}
+use Rattle.app_batch.specs.{LineRequests.IsRequestOf, LineRequests.call_of, declared.fault.AnswerFault.AnswerFault}
+use Rattle.app_batch.specs.declared.fault.AnswerFault.TheVariants as answerfault
 use Rattle.app_words.specs.declared.command.{Revocation.Revocation, Serving.Serving}
 use Rattle.app_tasks.specs.Deeds.{Adopts, AnswersLines, AnswersReader, BehindClock, ByDesk, FailsToAdopt, IsTold, Revokes, RevokesTarget, Serves}
 use Rattle.app_tasks.specs.Deeds.{ServesByMoment, ServesClients, ServesUnlessAhead, TakesAny, adopted, ask_of, clocked, clockless, served, unadopted, unserved}
-use Rattle.app_tasks.specs.{Showing.desk_shower, declared.fault.Fault.Fault}
+use Rattle.app_tasks.specs.{Showing.desk_shower, declared.fault.Fault.Fault, Doing.Doing}
 use Rattle.desk_http.specs.InTurn.{ServesConnections, ServesFewer, ServesMany, ServesUntil}
-use Rattle.desk_http.specs.{Logged.LogEntry, Showing.Shower}
-use Rattle.desk_http.specs.declared.{overseeing.Watch.Watch, serve_fault.ServeFault.ServeFault}
+use Rattle.desk_http.specs.{Logged.LogEntry, Showing.Shower, declared.overseeing.Watch.Watch, declared.serve_fault.ServeFault.ServeFault}
 use Rattle.desk_http.specs.declared.serve_fault.ServeFault.TheVariants as servefault
 use Rattle.desk.specs.{Answers.is_closed_after, Meets.ActsOnce, Seen.Told, State.DeskState, declared.fault.DeskFault.DeskFault}
 use Rattle.desk.specs.Office.{AnswersOffice, office_call}
 use Rattle.desk_http.proofs.Seeing.{one_acts}
 use Rattle.desk_model.specs.{Entry.History, History.terms, Legal.Legal, Tables.picture, declared.refusal.Refusal.Refusal, declared.reply.Reply.Reply}
 use Rattle.store_api.proofs.Readings.{reads_then, unchanged_both}
-use Rattle.store_api.specs.Sight.{Keeps, Sight, Unchanged}
-use Rattle.store_api.specs.Storing.{Causes}
+use Rattle.store_api.specs.{Sight.Keeps, Sight.Sight, Sight.Unchanged, Storing.Causes}
 use Rattle.desk_store.specs.{Desks.store_sight, declared.store.Store.Store}
 use Rattle.app_files.specs.Endings.{IsDoneOver}
-use Rattle.app_tasks.specs.Doing.{Doing}
-use Rattle.app_lives.specs.Kept.{Answered, HasLife}
+use Rattle.app_lives.specs.Told.{IsOfNext, TellsAny, TellsBatch, TellsLines, TellsRevocation, asked, no_line, not_shown, refused}
+use Rattle.app_lives.specs.{Kept.Answered, Kept.HasLife, Left.IsOver, Left.LeavesDesk, Left.LeavesLife, Left.LivesOn, Left.WordsLeave}
 use Rattle.app_lives.specs.Kept as kept
 use Rattle.app_reports.specs.{Reported.Reports, declared.fault.ReportFault.ReportFault}
-use Rattle.http_routes.specs.Lines.{Spells, line_text}
-use Rattle.http_routes.specs.declared.{lines.Line.Line, request.Request.Request}
+use Rattle.http_routes.specs.{Lines.Spells, Lines.line_text, declared.lines.Line.Line, declared.request.Request.Request}
 use Rattle.http_routes.specs.declared.request.Request.TheVariants as request
-use Rattle.app_lives.specs.Left.{IsOver, LeavesDesk, LeavesLife, LivesOn, WordsLeave}
-use Rattle.app_lives.specs.Told.{IsOfNext, TellsAny, TellsBatch, TellsLines, TellsRevocation, asked, no_line, not_shown, refused}
 use Rattle.app_lives.proofs.Copies.{copies_hold_desk, restored_hold_desk, stores_hold_desk}
 use Rattle.app_lives.proofs.Chains.{Any, AreCalls, OrOneMore, honest_at_first, left_behind, no_call, none_more, of_calls, once_more, one_replied}
 use Rattle.app_lives.proofs.Chains.{one_unanswered}

@@ -4,13 +4,11 @@ use Rattle.std.proofs.Math.Logic.{∥∥₁_elim, ∥∥₁_map}
 use Rattle.sqlite_disk.specs.declared.Disk as disk
 use Rattle.sqlite_store.specs.declared.store.FileStore.{FileStore}
 use Rattle.sqlite.specs.{Recovery.Image, Tree.Trees}
-use Rattle.desk_model.specs.{Decide.after, Entry.History, Legal.Legal, declared.call.Call.Call, declared.reply.Reply.Reply}
-use Rattle.desk_model.specs.Tables.{Tables, picture}
+use Rattle.desk_model.specs.{Decide.after, Entry.History, Legal.Legal, declared.call.Call.Call, declared.reply.Reply.Reply, Tables.Tables, Tables.picture}
 use Rattle.store_api.specs.Sight.{Keeps}
 use Rattle.desk_store.specs.{Desks.AreOfDesk, declared.store.Store.Store}
-use Rattle.desk.specs.Answers.{Exits, ExitsBy}
 use Rattle.desk.specs.Seen.{Place, runs, rests, Seen, seen_reply, seen_fault, seen_stop, seen_end, seen_open, seen_failure, place_after, IsAt, IsSeen, MaySee}
-use Rattle.desk.specs.declared.fault.DeskFault.{DeskFault}
+use Rattle.desk.specs.{Answers.Exits, Answers.ExitsBy, declared.fault.DeskFault.DeskFault}
 use Rattle.desk.specs.declared.fault.DeskFault.TheVariants as deskfault
 use Rattle.desk.proofs.Living.{seen_is_of_calls}
 use Rattle.desk_files.specs.LeftFiles.{LeftFiles, LeavesDesks, LeavesFound, file_sight, files_have}

@@ -1,31 +1,23 @@
 -- Words of the program, one after the other, over the files that the one before left.
 use Rattle.std.specs.Prelude.{◌≡◌, ◌⊎◌, ℕ, List, [], ◌∷◌, ◌++◌, Option, Result, Ok, IfSome, true}
-use Rattle.sqlite.specs.Files.{IsEmpty, file_state, image_of}
-use Rattle.sqlite.specs.{Recovery.Image, State.HasCleanDisk, WalReads.AreClean}
+use Rattle.sqlite.specs.{Files.IsEmpty, Files.file_state, Files.image_of, Recovery.Image, State.HasCleanDisk, WalReads.AreClean}
 use Rattle.sqlite_disk.specs.declared.Disk as disk
 use Rattle.sqlite_disk.specs.declared.Files.{Files}
 use Rattle.sqlite_store.specs.declared.store.FileStore.{FileStore}
 use Rattle.app_words.specs.declared.command.{Revocation.Revocation, Serving.Serving}
 use Rattle.app_tasks.specs.Deeds.{AnswersReader, ChecksStatuses, ListsRows, RevokesTarget, ServesClients, TellsAbout, TellsPage}
-use Rattle.app_tasks.specs.declared.fault.Fault.{Fault}
+use Rattle.app_tasks.specs.{declared.fault.Fault.Fault, Doing.Doing}
 use Rattle.app_commands.specs.Statuses.{EndsBackUp, EndsRestore}
 use Rattle.desk.specs.Seen.{Told, replied}
-use Rattle.desk_model.specs.{Entry.History, History.first_history, Tables.picture, declared.call.Call.Call}
 use Rattle.desk_model.specs.Life.{Event, IsLife, history, kept_calls}
-use Rattle.desk_model.specs.Terms.{Terms, are_terms}
-use Rattle.desk_files.specs.LeftFiles.{LeftFiles, file_sight}
-use Rattle.desk_files.specs.{Opening.MakesFiles, Opening.OpensFiles, declared.opening.NotOpened.NotOpened}
-use Rattle.desk_store.specs.Desks.{AreOfDesk}
-use Rattle.desk_store.specs.declared.{open_fault.OpenFault.OpenFault, store.Store.Store}
-use Rattle.app_files.specs.Endings.{FailsToBeMade, FailsToOpen, IsDoneOver}
-use Rattle.app_files.specs.declared.left.Left.{Left}
+use Rattle.desk_model.specs.{Entry.History, History.first_history, Tables.picture, declared.call.Call.Call, Terms.Terms, Terms.are_terms}
+use Rattle.desk_files.specs.{LeftFiles.LeftFiles, LeftFiles.file_sight, Opening.MakesFiles, Opening.OpensFiles, declared.opening.NotOpened.NotOpened}
+use Rattle.desk_store.specs.{Desks.AreOfDesk, declared.open_fault.OpenFault.OpenFault, declared.store.Store.Store}
+use Rattle.app_files.specs.{Endings.FailsToBeMade, Endings.FailsToOpen, Endings.IsDoneOver, declared.left.Left.Left}
 use Rattle.app_files.specs.declared.left.Left.TheVariants as rest
-use Rattle.app_tasks.specs.Doing.{Doing}
 use Rattle.app_reports.specs.Listed.{accounts_roster, authorizations_roster, orders_roster}
-use Rattle.app_reports.specs.declared.{asked.AuthorizationFilter.AuthorizationFilter, beside.Beside.Beside, form.Form.Form}
-use Rattle.app_reports.specs.declared.{asked.OrderFilter.OrderFilter}
-use Rattle.app_lives.specs.Kept.{AreKept, calls_of}
-use Rattle.app_lives.specs.Told.{TellsAny, TellsBatch, TellsRevocation}
+use Rattle.app_reports.specs.declared.{asked.AuthorizationFilter.AuthorizationFilter, beside.Beside.Beside, form.Form.Form, asked.OrderFilter.OrderFilter}
+use Rattle.app_lives.specs.{Kept.AreKept, Kept.calls_of, Told.TellsAny, Told.TellsBatch, Told.TellsRevocation}
 
 -- the replies of words, the latest first
 abbrev pub all_told : List (List Told) → List Told

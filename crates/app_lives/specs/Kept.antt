@@ -1,7 +1,6 @@
 -- Calls to a desk over any store, and what is left behind them.
 use Rattle.std.specs.Prelude.{◌≡◌, ◌⊎◌, List, [], ◌∷◌, Ok, Err}
-use Rattle.desk.specs.{Meets.Meets, State.DeskState, declared.fault.DeskFault.DeskFault}
-use Rattle.desk.specs.Seen.{Told, replied}
+use Rattle.desk.specs.{Meets.Meets, State.DeskState, declared.fault.DeskFault.DeskFault, Seen.Told, Seen.replied}
 use Rattle.desk_model.specs.{Entry.History, Tables.picture, declared.call.Call.Call, declared.reply.Reply.Reply}
 use Rattle.desk_model.specs.Life.{Event, IsLife, history, kept_calls}
 use Rattle.store_api.specs.Sight.{Sight}

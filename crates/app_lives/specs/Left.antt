@@ -1,27 +1,22 @@
 -- What the words of the program leave of a desk's files.
 use Rattle.std.specs.Prelude.{◌≡◌, ◌⊎◌, ℕ, List, [], Option, Result, Ok}
-use Rattle.sqlite.specs.Files.{image_of, over_files}
-use Rattle.sqlite.specs.{Recovery.Image, WalReads.AreClean}
+use Rattle.sqlite.specs.{Files.image_of, Files.over_files, Recovery.Image, WalReads.AreClean}
 use Rattle.sqlite_disk.specs.declared.Disk as disk
 use Rattle.sqlite_disk.specs.declared.Files.{Files}
 use Rattle.sqlite_store.specs.declared.store.FileStore.{FileStore}
 use Rattle.app_words.specs.declared.command.{Revocation.Revocation, Serving.Serving}
 use Rattle.app_tasks.specs.Deeds.{Adopts, AnswersReader, ChecksStatuses, FailsToAdopt, ListsRows, RevokesTarget, ServesClients, TellsAbout, TellsPage}
+use Rattle.app_tasks.specs.{declared.fault.Fault.Fault, Doing.Doing}
 use Rattle.app_commands.specs.Statuses.{EndsBackUp, EndsRestore}
-use Rattle.app_tasks.specs.declared.fault.Fault.{Fault}
 use Rattle.desk.specs.{Seen.Told, State.DeskState}
 use Rattle.desk_model.specs.{Entry.History, Legal.Legal, Tables.picture}
-use Rattle.desk_files.specs.LeftFiles.{HoldDesk, LeftFiles, file_sight}
-use Rattle.desk_files.specs.Opening.{OpensFiles}
+use Rattle.desk_files.specs.{LeftFiles.HoldDesk, LeftFiles.LeftFiles, LeftFiles.file_sight, Opening.OpensFiles}
 use Rattle.desk_store.specs.{Desks.store_sight, declared.store.Store.Store}
 use Rattle.app_files.specs.{Endings.IsDoneOver, declared.left.Left.Left}
-use Rattle.app_tasks.specs.Doing.{Doing}
 use Rattle.app_reports.specs.Listed.{accounts_roster, authorizations_roster, orders_roster}
-use Rattle.app_reports.specs.declared.{asked.AuthorizationFilter.AuthorizationFilter, beside.Beside.Beside}
+use Rattle.app_reports.specs.declared.{asked.AuthorizationFilter.AuthorizationFilter, beside.Beside.Beside, form.Form.Form, asked.OrderFilter.OrderFilter}
 use Rattle.app_files.specs.declared.left.Left.TheVariants as rest
-use Rattle.app_reports.specs.declared.{form.Form.Form, asked.OrderFilter.OrderFilter}
-use Rattle.app_lives.specs.Kept.{Answered, HasLife}
-use Rattle.app_lives.specs.Told.{TellsAny, TellsBatch, TellsRevocation}
+use Rattle.app_lives.specs.{Kept.Answered, Kept.HasLife, Told.TellsAny, Told.TellsBatch, Told.TellsRevocation}
 
 module _ {D : Type 0} (g : disk.Ghosts D) where
   -- the desk of a history was in the files when a word opened them, in either format, and the disk was honest to the end

@@ -2,10 +2,8 @@
 use Rattle.std.specs.Prelude.{◌≡◌, ◌⊎◌, List, [], ◌∷◌, map, Ok, Err}
 use Rattle.sqlite_disk.specs.declared.Disk as disk
 use Rattle.sqlite_store.specs.declared.store.FileStore.{FileStore}
-use Rattle.sqlite.specs.Files.{file_state, over_files}
-use Rattle.sqlite.specs.{Held.Held, Recovery.Image, Tree.Trees}
-use Rattle.desk_model.specs.{Entry.History, Legal.Legal}
-use Rattle.desk_model.specs.Tables.{Tables, picture}
+use Rattle.sqlite.specs.{Files.file_state, Files.over_files, Held.Held, Recovery.Image, Tree.Trees}
+use Rattle.desk_model.specs.{Entry.History, Legal.Legal, Tables.Tables, Tables.picture}
 use Rattle.desk.specs.Seen.{Place, runs, rests, Seen, seen_reply, seen_fault, seen_stop, seen_end, seen_open, seen_failure}
 use Rattle.desk.specs.Seen.{place_after, IsAt, IsExit, IsExitInPlace, IsSeen}
 use Rattle.desk_files.specs.LeftFiles.{AreOfOpening, LeftFiles, IsNumbered, LeavesFound, MayLeave, file_sight}

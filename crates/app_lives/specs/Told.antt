@@ -1,16 +1,13 @@
 -- What is said to the lines of a batch, and the replies that it tells.
 use Rattle.std.specs.Prelude.{◌≡◌, ◌≢◌, ◌⊎◌, ℕ, List, [], ◌∷◌, ◌++◌, Option, None, IfSome, Result, Ok}
 use Rattle.std.specs.Io.KnownBytes.{Appends}
-use Rattle.app_batch.specs.InTurn.{AreLines, IsNextLine}
-use Rattle.app_batch.specs.LineRequests.{IsRequestOf, call_of}
+use Rattle.app_batch.specs.{InTurn.AreLines, InTurn.IsNextLine, LineRequests.IsRequestOf, LineRequests.call_of}
 use Rattle.app_words.specs.declared.command.Revocation.{Revocation}
 use Rattle.app_tasks.specs.{Deeds.ask_of, declared.fault.Fault.Fault}
-use Rattle.desk.specs.Office.{office_call, refusal_in}
-use Rattle.desk.specs.Seen.{Told}
+use Rattle.desk.specs.{Office.office_call, Office.refusal_in, Seen.Told}
 use Rattle.desk_model.specs.declared.{call.Ask.Ask, reply.Reply.Reply}
-use Rattle.http_routes.specs.Lines.{Spells, line_text}
-use Rattle.http_routes.specs.{Request.refused_reply, Request.unshown, declared.lines.Line.Line, declared.looked.Looked.Looked}
-use Rattle.http_routes.specs.declared.request.RequestRefusal.{RequestRefusal}
+use Rattle.http_routes.specs.{Lines.Spells, Lines.line_text, Request.refused_reply, Request.unshown, declared.lines.Line.Line, declared.looked.Looked.Looked}
+use Rattle.http_routes.specs.{declared.request.RequestRefusal.RequestRefusal}
 use Rattle.http_routes.specs.declared.request.Request.TheVariants as request
 
 -- these texts were said to these lines, each with its end, and tell these replies, the latest first: to a line that asks something the

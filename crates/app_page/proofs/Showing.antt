@@ -1,10 +1,8 @@
 -- The rows of a table of the page, shown so far.
-use Rattle.std.proofs.KnownBytes.{Appends-nil, Appends-trans}
-use Rattle.std.proofs.lemmas.Bool.{le-ltb, lt-ltb, ltb-false, ltb-true}
-use Rattle.std.proofs.lemmas.List.{take-append-le, take_all}
-use Rattle.std.proofs.lemmas.List.{Concat.flat_map-append, Elements.filter-append}
-use Rattle.std.proofs.Common.{◌≡◌, ◌∙◌, ◌++◌, ◌-◌, ◌^◌, Bool, true, false, List, [], ◌∷◌, ℕ, ap, append-nil, arith, cond, filter, length}
-use Rattle.std.proofs.Common.{length-append, min, nat_lt, refl, subst, sym, take}
+use Rattle.std.proofs.Common.{◌≡◌, ◌∙◌, ◌++◌, ◌-◌, ◌^◌, Bool, true, false, List, [], ◌∷◌, ℕ, ap, append-nil, arith, cond, filter, length, length-append, min}
+use Rattle.std.proofs.Common.{nat_lt, refl, subst, sym, take}
+use Rattle.std.proofs.{KnownBytes.Appends-nil, KnownBytes.Appends-trans, lemmas.Bool.le-ltb, lemmas.Bool.lt-ltb, lemmas.Bool.ltb-false, lemmas.Bool.ltb-true}
+use Rattle.std.proofs.{lemmas.List.take-append-le, lemmas.List.take_all, lemmas.List.Concat.flat_map-append, lemmas.List.Elements.filter-append}
 use Rattle.std.specs.{Io.KnownBytes.Appends, List.flat_map, Prelude.Option}
 use Rattle.app_page.specs.Page.{IsShown, ShowsFirst, if_room}
 use Rattle.app_reports.proofs.SoFar.{SoFar, all_so, more_so, none_so}

@@ -1,7 +1,6 @@
 -- The texts of a list, written so far.
-use Rattle.std.proofs.KnownBytes.{Appends-nil, Appends-trans}
 use Rattle.std.proofs.Common.{◌≡◌, ◌∙◌, ◌<◌, ◌≤◌, ◌+◌, ◌++◌, List, [], ℕ, ap, append_assoc, append-nil, drop, get_or, length, refl, subst, sym}
-use Rattle.std.proofs.lemmas.List.{at_drop_all, at_drop_more}
+use Rattle.std.proofs.{KnownBytes.Appends-nil, KnownBytes.Appends-trans, lemmas.List.at_drop_all, lemmas.List.at_drop_more}
 use Rattle.std.specs.{Io.KnownBytes.Appends, List.flat_map, Prelude.Option}
 
 module _ {X : Type 0} (text : X → List ℕ) where

@@ -1,6 +1,5 @@
 -- Texts within HTML.
-use Rattle.std.specs.Prelude.{ℕ, ◌==◌, List, chars, codes, cond}
-use Rattle.std.specs.List.{flat_map}
+use Rattle.std.specs.{Prelude.ℕ, Prelude.◌==◌, Prelude.List, Prelude.chars, Prelude.codes, Prelude.cond, List.flat_map}
 use Rattle.app_reports.specs.Visible.{visible_char}
 
 -- a character; the entity that stands for it, where HTML reads it otherwise: & < > " '; a backslash as JSON escapes it, and what is no visible

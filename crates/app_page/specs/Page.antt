@@ -1,13 +1,11 @@
 -- What the page shows of a desk.
 use Rattle.std.specs.Prelude.{◌≡◌, ◌&&◌, ◌+◌, ◌-◌, ◌^◌, ◌++◌, ℕ, Bool, List, [], Option, codes, cond, decimal, length, map, min, nat_lt, take}
-use Rattle.std.specs.Io.KnownBytes.{Appends}
-use Rattle.std.specs.List.{filter, flat_map, list_any}
+use Rattle.std.specs.{Io.KnownBytes.Appends, List.filter, List.flat_map, List.list_any}
 use Rattle.desk_model.specs.{Authorization.is_pending, Effect.is_overdue, Legal.is_processing_challenge, Moment.moment_text, Name.Name, Names.shown_name}
 use Rattle.desk_model.specs.{Tables.Tables, Touched.is_past_order, declared.rows.AccountRow.AccountRow, declared.rows.AuthorizationRow.AuthorizationRow}
 use Rattle.desk_model.specs.declared.rows.{ChallengeRow.ChallengeRow, Counters.Counters, Meta.Meta, OrderRow.OrderRow}
 use Rattle.desk_model.specs.Document.{authorization_status_text, challenge_status_text, kind_text, listed_rows, order_status_text}
-use Rattle.model_lives.specs.Above.{authorizations_above, orders_above}
-use Rattle.model_lives.specs.LookUps.{accounts_numbered, wants_order}
+use Rattle.model_lives.specs.{Above.authorizations_above, Above.orders_above, LookUps.accounts_numbered, LookUps.wants_order}
 use Rattle.model_lives.specs.declared.queries.OrdersWhere.TheVariants as orders
 use Rattle.moments.specs.Capped.{capped}
 use Rattle.app_reports.specs.About.{statuses_said}

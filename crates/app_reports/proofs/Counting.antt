@@ -1,7 +1,6 @@
 -- Rows that were counted so far.
-use Rattle.std.proofs.Common.{◌≡◌, ◌∙◌, ◌++◌, ◌+◌, ◌-◌, ◌^◌, List, [], ◌∷◌, ℕ, Bool, true, false, ap, append-nil, arith, cond, filter, length}
-use Rattle.std.proofs.Common.{length-append, min}
-use Rattle.std.proofs.Common.{refl, replicate, zero, suc, sym}
+use Rattle.std.proofs.Common.{◌≡◌, ◌∙◌, ◌++◌, ◌+◌, ◌-◌, ◌^◌, List, [], ◌∷◌, ℕ, Bool, true, false, ap, append-nil, arith, cond, filter, length, length-append}
+use Rattle.std.proofs.Common.{min, refl, replicate, zero, suc, sym}
 use Rattle.std.proofs.lemmas.List.Elements.{filter-append}
 use Rattle.std.specs.Prelude.{◌==◌, slice_index}
 use Rattle.app_reports.proofs.SoFar.{SoFar, all_so, more_so, none_so}

@@ -1,10 +1,8 @@
 -- Rows that were listed so far.
-use Rattle.std.proofs.KnownBytes.{Appends-nil, Appends-trans}
-use Rattle.std.proofs.lemmas.List.Concat.{flat_map-append}
 use Rattle.std.proofs.Common.{◌≡◌, ◌++◌, ◌+◌, ◌-◌, ◌^◌, List, [], ◌∷◌, ℕ, ap, append-nil, arith, inl, inr, length, length-append, min, refl, subst, sym}
+use Rattle.std.proofs.{KnownBytes.Appends-nil, KnownBytes.Appends-trans, lemmas.List.Concat.flat_map-append}
 use Rattle.std.specs.{Io.KnownBytes.Appends, List.flat_map, Prelude.Option}
-use Rattle.app_reports.specs.Filter.{AreKept}
-use Rattle.app_reports.specs.Listed.{Prints, Turns}
+use Rattle.app_reports.specs.{Filter.AreKept, Listed.Prints, Listed.Turns}
 use Rattle.app_reports.proofs.SoFar.{SoFar, all_so, more_so, none_so}
 
 -- the count, with one more

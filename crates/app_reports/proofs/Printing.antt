@@ -1,11 +1,9 @@
 -- Lines that were written so far.
 use Rattle.std.proofs.{KnownBytes.Appends-trans, lemmas.List.Concat.flat_map-append}
 use Rattle.std.proofs.Common.{◌≡◌, ◌≢◌, ◌↔◌, ◌∙◌, ◌++◌, Bool, true, false, IsTrue, List, [], ◌∷◌, ℕ, ap, append_assoc, append-nil, refl, subst, sym}
-use Rattle.std.specs.Io.KnownBytes.{Appends}
-use Rattle.std.specs.Prelude.{Option, Result, Ok, Err, OnOk}
+use Rattle.std.specs.{Io.KnownBytes.Appends, Prelude.Option, Prelude.Result, Prelude.Ok, Prelude.Err, Prelude.OnOk}
 use Rattle.desk_model.specs.declared.rows.StatusFault.{StatusFault}
-use Rattle.app_reports.specs.Printed.{faults_text, line_of, lines_of}
-use Rattle.app_reports.specs.declared.form.Form.{Form}
+use Rattle.app_reports.specs.{Printed.faults_text, Printed.line_of, Printed.lines_of, declared.form.Form.Form}
 use Rattle.app_reports.specs.declared.form.Form.TheVariants as form
 
 -- the lines of all faults but those that are left were written

@@ -4,8 +4,7 @@ use Rattle.store_api.specs.Sight.{FailsBy, IsCaused, LeavesUnchanged, Reads, Sig
 use Rattle.store_api.specs.declared.fault.StorageFault.{StorageFault}
 use Rattle.store_api.specs.declared.fault.StorageFault.TheVariants as cause
 use Rattle.store_api.proofs.Readings.{unchanged_both}
-use Rattle.app_reports.specs.Reported.{IsCause, LeavesRows, Reports}
-use Rattle.app_reports.specs.declared.fault.ReportFault.{ReportFault}
+use Rattle.app_reports.specs.{Reported.IsCause, Reported.LeavesRows, Reported.Reports, declared.fault.ReportFault.ReportFault}
 use Rattle.app_reports.specs.declared.fault.ReportFault.TheVariants as fault
 
 module _ {S C : Type 0} {v : Sight S C} where

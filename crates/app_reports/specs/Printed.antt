@@ -1,7 +1,6 @@
 -- What the reports print.
 use Rattle.std.specs.Prelude.{ℕ, ◌^◌, ◌-◌, false, List, [], ◌++◌, codes, decimal, map}
-use Rattle.std.specs.Fmt.{format_spec, padded, padded_integral}
-use Rattle.std.specs.List.{flat_map}
+use Rattle.std.specs.{Fmt.format_spec, Fmt.padded, Fmt.padded_integral, List.flat_map}
 use Rattle.desk_model.specs.Document.{account_status_text, authorization_status_text, challenge_status_text, order_status_text}
 use Rattle.desk_model.specs.{Json.list, Keys.thumbprint, Moment.moment_text, Names.shown_name, Tokens.base64url}
 use Rattle.desk_model.specs.declared.rows.{AccountRow.AccountRow, AuthorizationRow.AuthorizationRow, OrderRow.OrderRow, StatusFault.StatusFault}

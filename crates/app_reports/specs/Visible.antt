@@ -1,7 +1,6 @@
 -- Texts in the visible characters of ASCII.
 use Rattle.std.specs.Prelude.{ℕ, ◌/◌, ◌%◌, ◌++◌, ◌&&◌, List, [], ◌∷◌, chars, codes, cond, nat_lt}
-use Rattle.std.specs.List.{flat_map}
-use Rattle.std.specs.Char.{Escape.encode_utf16, digit_char}
+use Rattle.std.specs.{List.flat_map, Char.Escape.encode_utf16, Char.digit_char}
 
 -- a unit of UTF-16 as JSON escapes it (RFC 8259, 7), in lower case
 abbrev pub unit_escape : ℕ → List ℕ

@@ -1,10 +1,8 @@
 -- The body of a reply, and the document that it is.
-use Rattle.std.proofs.Common.{◌≡◌, ◌∙◌, ◌<◌, ◌+◌, ◌-◌, ℕ, zero, suc, List, [], ◌∷◌, Bool, true, false, ap, arith, codes}
-use Rattle.std.proofs.Common.{drop, length, length-drop, refl, sym, take}
-use Rattle.std.proofs.Common.{IsUtf8, None}
-use Rattle.std.proofs.lemmas.{List.take_all, Str.IsUtf8-from_is_utf8, Str.is_utf8-from_IsUtf8}
-use Rattle.std.specs.Prelude.{if◌then◌else◌, nat_eq}
-use Rattle.std.specs.{List.starts_with, Str.is_utf8}
+use Rattle.std.proofs.Common.{◌≡◌, ◌∙◌, ◌<◌, ◌+◌, ◌-◌, ℕ, zero, suc, List, [], ◌∷◌, Bool, true, false, ap, arith, codes, drop, length, length-drop, refl, sym}
+use Rattle.std.proofs.Common.{take, IsUtf8, None}
+use Rattle.std.proofs.{lemmas.List.take_all, lemmas.Str.IsUtf8-from_is_utf8, lemmas.Str.is_utf8-from_IsUtf8}
+use Rattle.std.specs.{Prelude.if◌then◌else◌, Prelude.nat_eq, List.starts_with, Str.is_utf8}
 use Rattle.serde_json.specs.Read.{read}
 use Rattle.app_tasks.specs.Outcomes.{body_of, document_in}
 

@@ -5,8 +5,7 @@ use Rattle.app_words.specs.declared.command.{Revocation.Revocation, Serving.Serv
 use Rattle.app_tasks.specs.Deeds.{AnswersLines, Revokes, Serves, TakesAny, ask_of, served, watch_at}
 use Rattle.app_tasks.specs.{Showing.desk_shower, declared.fault.Fault.Fault}
 use Rattle.app_tasks.specs.declared.fault.Fault.TheVariants as fault
-use Rattle.desk_http.specs.{InTurn.ServesConnections, declared.serve_fault.ServeFault.ServeFault}
-use Rattle.desk_http.specs.declared.moment_bound.MomentBound.{MomentBound}
+use Rattle.desk_http.specs.{InTurn.ServesConnections, declared.serve_fault.ServeFault.ServeFault, declared.moment_bound.MomentBound.MomentBound}
 use Rattle.desk.specs.{Faults.closes, Office.AnswersOffice, SeenDesks.IsSeenOn, State.DeskState, declared.fault.DeskFault.DeskFault}
 use Rattle.store_api.specs.{Sight.Sight, Storing.Causes}
 

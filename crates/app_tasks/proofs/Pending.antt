@@ -1,16 +1,13 @@
 -- The challenges that wait, each counted beside its authorization, are as many as those of the authorizations that are stored as pending.
 use Rattle.std.proofs.Common.{◌≡◌, ℕ, ◌+◌, Bool, cond, List, [], ◌∷◌, length, map, filter, sum, count_by, refl, sym, ap, ◌∙◌, arith}
-use Rattle.std.specs.Prelude.{◌==◌}
-use Rattle.std.specs.List.{sum_by}
 use Rattle.std.proofs.lemmas.List.{Concat.length-flat_map, length-map, Sums.length-filter, Sums.sum-map, Sums.sum_by-append, Sums.sum_by-cons}
 use Rattle.std.proofs.lemmas.Simd.{map-map}
+use Rattle.std.specs.{Prelude.◌==◌, List.sum_by}
 use Rattle.app_tasks.specs.Metrics.{challenges_waiting}
-use Rattle.desk_model.specs.{Authorization.is_pending, Kept.EachOf, Tables.Tables}
-use Rattle.desk_model.specs.declared.rows.AuthorizationRow.{AuthorizationRow}
+use Rattle.desk_model.specs.{Authorization.is_pending, Kept.EachOf, Tables.Tables, declared.rows.AuthorizationRow.AuthorizationRow}
 use Rattle.model_laws.proofs.{Basics.each, Basics.eq_turn, Basics.map-each, Local.filters_swap}
 use Rattle.model_lives.proofs.Lists.{filtered_each}
-use Rattle.model_lives.specs.LookUps.{AreWaiting, bare_authorizations, waiting_of}
-use Rattle.model_lives.specs.Thinned.{without_challenges}
+use Rattle.model_lives.specs.{LookUps.AreWaiting, LookUps.bare_authorizations, LookUps.waiting_of, Thinned.without_challenges}
 use Rattle.store_api.proofs.WaitingRows.{numbered}
 use Rattle.store_columns.specs.declared.columns.JoinedChallenge.{JoinedChallenge}
 

@@ -3,8 +3,7 @@ use Rattle.std.proofs.Common.{ℕ, inl, inr, List, Option, None, Some, Result, O
 use Rattle.app_words.specs.declared.command.Revocation.{Revocation}
 use Rattle.desk_http.specs.declared.asking.Unheard.TheVariants as cause
 use Rattle.desk_model.specs.declared.refusal.Refusal.{Refusal}
-use Rattle.app_tasks.specs.Asked.{Hears, RevokesServed, TellsReply, refused, revoked, unheard}
-use Rattle.app_tasks.specs.declared.fault.Fault.{Fault}
+use Rattle.app_tasks.specs.{Asked.Hears, Asked.RevokesServed, Asked.TellsReply, Asked.refused, Asked.revoked, Asked.unheard, declared.fault.Fault.Fault}
 
 -- why a desk was not heard, or another fault
 abbrev fault_in : Result (Option Refusal) Fault → Fault → Fault

@@ -1,7 +1,6 @@
 -- Bytes that are read of the one and written to the other, in steps.
 use Rattle.std.proofs.Common.{◌≡◌, ℕ, ◌+◌, [], ◌++◌, List, Option, length, arith, subst}
-use Rattle.std.proofs.lemmas.List.{length-append}
-use Rattle.std.proofs.KnownBytes.{Appends-nil, Appends-trans, Consumes-nil, Consumes-trans}
+use Rattle.std.proofs.{lemmas.List.length-append, KnownBytes.Appends-nil, KnownBytes.Appends-trans, KnownBytes.Consumes-nil, KnownBytes.Consumes-trans}
 use Rattle.std.specs.Io.KnownBytes.{Appends}
 use Rattle.app_tasks.specs.Sending.{Moves, MovesAll, SendsBoth, sizes_line}
 

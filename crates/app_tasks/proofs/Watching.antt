@@ -3,8 +3,7 @@ use Rattle.std.proofs.Common.{ℕ, zero, suc, Bool, true, Option, None, Some, Re
 use Rattle.store_api.specs.{Sight.Sight, Storing.Causes}
 use Rattle.desk.specs.{State.DeskState, declared.fault.DeskFault.DeskFault}
 use Rattle.desk_http.specs.InTurn.{ServesConnections, ServesFewer, ServesMany, ServesOne, ServesUntil}
-use Rattle.desk_http.specs.{Logged.LogEntry, Showing.Shower}
-use Rattle.desk_http.specs.declared.{overseeing.Watch.Watch, serve_fault.ServeFault.ServeFault}
+use Rattle.desk_http.specs.{Logged.LogEntry, Showing.Shower, declared.overseeing.Watch.Watch, declared.serve_fault.ServeFault.ServeFault}
 use Rattle.desk_http.specs.declared.serve_fault.ServeFault.TheVariants as servefault
 
 -- another overseer, in the same watch

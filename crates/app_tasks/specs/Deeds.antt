@@ -7,9 +7,8 @@ use Rattle.app_words.specs.declared.command.{Listening.Listening, Revocation.Rev
 use Rattle.app_words.specs.declared.command.Listening.TheVariants as listening
 use Rattle.app_words.specs.declared.command.Place.TheVariants as place
 use Rattle.app_words.specs.declared.command.Revocation.TheVariants as revocation
-use Rattle.app_tasks.specs.{Faults.report_fault, Showing.desk_shower, declared.fault.Fault.Fault}
+use Rattle.app_tasks.specs.{Faults.report_fault, Showing.desk_shower, declared.fault.Fault.Fault, declared.sockets.SocketCause.SocketCause, Doing.Deed}
 use Rattle.app_tasks.specs.declared.fault.Fault.TheVariants as fault
-use Rattle.app_tasks.specs.declared.sockets.SocketCause.{SocketCause}
 use Rattle.desk_http.specs.{InTurn.ServesConnections, Logged.LogEntry, declared.serve_fault.ServeFault.ServeFault}
 use Rattle.desk_http.specs.declared.{moment_bound.MomentBound.MomentBound, overseeing.Watch.Watch}
 use Rattle.desk_http.specs.declared.serve_fault.ServeFault.TheVariants as servefault
@@ -17,13 +16,10 @@ use Rattle.desk.specs.{Answers.is_closed_after, Faults.storage_fault, Office.Ans
 use Rattle.desk.specs.declared.fault.DeskFault.{DeskFault}
 use Rattle.desk_model.specs.{Derived.status_faults, Tables.Tables, declared.call.OfficeAsk.OfficeAsk, declared.refusal.Refusal.Refusal}
 use Rattle.desk_model.specs.declared.call.OfficeAsk.TheVariants as ask
-use Rattle.store_api.specs.Sight.{FailsToRead, ForTables, Sight, Unchanged}
-use Rattle.store_api.specs.{Storing.Causes, declared.fault.StorageFault.StorageFault}
-use Rattle.app_tasks.specs.Doing.{Deed}
+use Rattle.store_api.specs.{Sight.FailsToRead, Sight.ForTables, Sight.Sight, Sight.Unchanged, Storing.Causes, declared.fault.StorageFault.StorageFault}
 use Rattle.app_page.specs.Page.{page_html}
-use Rattle.app_reports.specs.{About.about_text, About.ahead, Printed.faults_text, Reported.Reports}
-use Rattle.app_reports.specs.Listed.{PrintsAll, Roster}
-use Rattle.app_reports.specs.declared.{beside.Beside.Beside, faults.Checked.Checked, form.Form.Form, fault.ReportFault.ReportFault}
+use Rattle.app_reports.specs.{About.about_text, About.ahead, Printed.faults_text, Reported.Reports, Listed.PrintsAll, Listed.Roster}
+use Rattle.app_reports.specs.{declared.beside.Beside.Beside, declared.faults.Checked.Checked, declared.form.Form.Form, declared.fault.ReportFault.ReportFault}
 use Rattle.app_reports.specs.declared.form.Form.TheVariants as form
 
 -- ---- reports

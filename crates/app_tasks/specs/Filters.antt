@@ -1,6 +1,5 @@
 -- Which rows the words of a list ask for.
-use Rattle.std.specs.Prelude.{◌≡◌, ℕ, List, Option, None, Some}
-use Rattle.std.specs.Borrow.{Bor}
+use Rattle.std.specs.{Prelude.◌≡◌, Prelude.ℕ, Prelude.List, Prelude.Option, Prelude.None, Prelude.Some, Borrow.Bor}
 use Rattle.app_words.specs.declared.command.{AuthorizationListing.AuthorizationListing, OrderListing.OrderListing}
 use Rattle.desk_model.specs.{Document.order_status_text, Name.Name, Names.name_of, declared.status.OrderStatus.OrderStatus}
 use Rattle.app_reports.specs.declared.{asked.AuthorizationFilter.AuthorizationFilter, asked.OrderFilter.OrderFilter}

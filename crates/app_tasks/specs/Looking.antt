@@ -6,8 +6,7 @@ use Rattle.serde_json.specs.{Data.Data, Data.Members, Data.no_members, Data.numb
 use Rattle.app_words.specs.declared.command.Report.{Report}
 use Rattle.app_words.specs.declared.command.Report.TheVariants as report
 use Rattle.app_reports.specs.declared.{asked.AuthorizationFilter.AuthorizationFilter, asked.OrderFilter.OrderFilter}
-use Rattle.http_routes.specs.Looked.{object_number, report_in}
-use Rattle.http_routes.specs.declared.{looked.Looked.Looked, looked.ReportForm.ReportForm}
+use Rattle.http_routes.specs.{Looked.object_number, Looked.report_in, declared.looked.Looked.Looked, declared.looked.ReportForm.ReportForm}
 use Rattle.http_routes.specs.declared.looked.Looked.TheVariants as looked
 use Rattle.http_routes.specs.declared.looked.ReportForm.TheVariants as asks
 use Rattle.app_tasks.specs.Filters.{AreRight, AsksForAuthorizations, AsksForOrders, Given, StandsForName}

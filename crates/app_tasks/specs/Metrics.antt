@@ -1,18 +1,15 @@
 -- The text by which a desk that is served is watched (OpenMetrics 1.0).
 use Rattle.std.specs.Prelude.{◌≡◌, ℕ, ◌++◌, List, [], ◌∷◌, Option, Some, None, codes, decimal, length, unwrap_or}
-use Rattle.std.specs.Io.KnownBytes.{Appends}
-use Rattle.std.specs.List.{filter, flat_map}
+use Rattle.std.specs.{Io.KnownBytes.Appends, List.filter, List.flat_map}
 use Rattle.app_reports.specs.About.{ahead}
-use Rattle.desk_model.specs.{Authorization.is_pending, Tables.Tables}
-use Rattle.desk_model.specs.declared.rows.{ChallengeRow.ChallengeRow, Counters.Counters}
+use Rattle.desk_model.specs.{Authorization.is_pending, Tables.Tables, declared.rows.ChallengeRow.ChallengeRow, declared.rows.Counters.Counters}
 use Rattle.http_routes.specs.declared.routes.Route.{Route}
 use Rattle.http_routes.specs.declared.routes.Route.TheVariants as route
 use Rattle.model_laws.specs.Ordered.{IsOrdered}
 use Rattle.model_lives.specs.LookUps.{orders_processing, waiting_of}
-use Rattle.app_tasks.specs.Totals.{calls_of, faults_of}
-use Rattle.app_tasks.specs.declared.snapshot.{Reading.Reading, Snapshot.Snapshot}
+use Rattle.app_tasks.specs.{Totals.calls_of, Totals.faults_of, declared.snapshot.Reading.Reading, declared.snapshot.Snapshot.Snapshot}
+use Rattle.app_tasks.specs.{declared.totals.CallCounts.CallCounts, declared.totals.Totals.Totals}
 use Rattle.app_tasks.specs.declared.metrics.TheConstants as head
-use Rattle.app_tasks.specs.declared.totals.{CallCounts.CallCounts, Totals.Totals}
 
 -- ---- what is told
 

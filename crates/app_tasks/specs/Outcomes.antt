@@ -5,8 +5,7 @@ use Rattle.std.specs.{List.ends_with, List.starts_with, Str.is_utf8}
 use Rattle.serde_json.specs.{Data.Data, Find.get, Read.read}
 use Rattle.app_words.specs.declared.command.Revocation.{Revocation}
 use Rattle.app_words.specs.declared.command.Revocation.TheVariants as revocation
-use Rattle.desk_model.specs.{Keys.text_member, Refusals.refusal_of}
-use Rattle.desk_model.specs.declared.refusal.Refusal.{Refusal}
+use Rattle.desk_model.specs.{Keys.text_member, Refusals.refusal_of, declared.refusal.Refusal.Refusal}
 use Rattle.desk_model.specs.declared.refusal.Refusal.TheVariants as refusal
 
 -- what stands behind the first empty line of a reply, if it has one (RFC 9112, 2.1)

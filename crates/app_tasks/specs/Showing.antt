@@ -2,10 +2,9 @@
 use Rattle.std.specs.Prelude.{◌≡◌, ℕ, List, Option, Result, Ok, Err, OnOk, codes}
 use Rattle.std.specs.Io.KnownBytes.{Appends}
 use Rattle.app_page.specs.Page.{page_html}
-use Rattle.app_reports.specs.{About.about_text, Printed.faults_text}
-use Rattle.app_reports.specs.Listed.{PrintsAll, Roster, accounts_roster, authorizations_roster, orders_roster}
-use Rattle.app_reports.specs.declared.{asked.AuthorizationFilter.AuthorizationFilter, asked.OrderFilter.OrderFilter}
-use Rattle.app_reports.specs.declared.{beside.Beside.Beside, fault.ReportFault.ReportFault, form.Form.Form}
+use Rattle.app_reports.specs.{About.about_text, Printed.faults_text, Listed.PrintsAll, Listed.Roster, Listed.accounts_roster, Listed.authorizations_roster}
+use Rattle.app_reports.specs.{Listed.orders_roster, declared.asked.AuthorizationFilter.AuthorizationFilter, declared.asked.OrderFilter.OrderFilter}
+use Rattle.app_reports.specs.{declared.beside.Beside.Beside, declared.fault.ReportFault.ReportFault, declared.form.Form.Form}
 use Rattle.app_reports.specs.declared.fault.ReportFault.TheVariants as reportfault
 use Rattle.app_reports.specs.declared.form.Form.TheVariants as form
 use Rattle.app_tasks.specs.{Metrics.TellsMetrics, Sending.SendsBackup, declared.snapshot.Reading.Reading}

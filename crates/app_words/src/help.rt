@@ -55,7 +55,8 @@ pub(crate) const DESK: &str = after!(
                    no regular file; a rollback journal stands beside it; it or its log was replaced,
                    cut or removed while it was served; the disk is full, or failed
   22 reopen        an earlier fault closed the desk, and the next start opens it
-  23 not a desk    there is no file, an empty one, or one of something else; for make, one with bytes
+  23 not a desk    there is no file, an empty one, or one of something else; for make, a file with
+                   bytes, the log of another desk, or the name of what stands beside another file
   24 moment        a moment is past the last one that a desk knows, or further above the latest than
                    the --max-step of serve
   25 short random  a line of a batch has too few random bytes

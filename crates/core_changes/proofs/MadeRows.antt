@@ -1,43 +1,31 @@
 -- The rows of a new order and of its authorizations.
-use Rattle.std.proofs.Common.{◌≡◌, ◌≤◌, ◌<◌, ℕ, ◌+◌, List, [], ◌∷◌, ◌++◌, map, Option, Some, None, true, false, Bool, cond, refl, ap, ◌∙◌, arith}
-use Rattle.std.specs.Prelude.{◌==◌, ◌&&◌, ◌||◌, find, nat_lt}
-use Rattle.std.specs.List.{list_all, list_any}
-use Rattle.std.specs.Option.{option_map}
-use Rattle.std.proofs.lemmas.Bool.{and_parts, le-ltb}
-use Rattle.desk_model.specs.{Allowed.may_want_on, Tables.Tables, Kept.EachOf, Lookup.holds}
-use Rattle.desk_model.specs.Questions.{order_end, serves}
-use Rattle.desk_model.specs.Authorization.{authorization_status_by, is_good, is_over, is_pending, is_valid, made_for}
-use Rattle.desk_model.specs.Derived.{and_status, authorization_numbered, derived_order, numbers_of, stored_statuses}
+use Rattle.std.proofs.Common.{◌≡◌, ◌≤◌, ◌<◌, ℕ, ◌+◌, List, [], ◌∷◌, ◌++◌, map, Option, Some, None, true, false, Bool, refl, ap, ◌∙◌, arith, rules}
+use Rattle.std.proofs.{lemmas.Bool.and_parts, lemmas.Bool.le-ltb, lemmas.Bool.Decides.nat_tests, lemmas.Grind.common_steps}
+use Rattle.std.specs.{Prelude.◌==◌, Prelude.find, List.list_all, List.list_any, Option.option_map}
+use Rattle.desk_model.specs.Authorization.{is_good, is_over, is_pending, is_valid, made_for}
+use Rattle.desk_model.specs.Derived.{and_status, authorization_numbered, derived_order, stored_statuses}
 use Rattle.desk_model.specs.Effect.{authorizations_after, fresh_challenge, fresh_order, moved_authorization, new_authorizations}
-use Rattle.desk_model.specs.Order.{listed_by, made_status, order_status_by}
-use Rattle.desk_model.specs.declared.{entry.Entry.TheVariants.Ordered as ordered, entry.Wanted.Wanted, objects.Authorization.Authorization}
-use Rattle.desk_model.specs.declared.{objects.Challenge.Challenge, objects.Order.Order, rows.AuthorizationRow.AuthorizationRow, status.AuthzStatus.AuthzStatus}
-use Rattle.desk_model.specs.declared.entry.Wanted.TheVariants.{New as new, Reused as reused}
-use Rattle.desk_model.specs.declared.status.AuthzStatus.TheVariants as authz
-use Rattle.model_laws.specs.Ordered.{Ascends, Below}
-use Rattle.model_laws.specs.Reused.{OfReused}
+use Rattle.desk_model.specs.{Allowed.may_want_on, Tables.Tables, Kept.EachOf, Lookup.holds, Questions.order_end, Questions.serves, Order.listed_by}
+use Rattle.desk_model.specs.{Order.made_status, Order.order_status_by, declared.entry.Entry.TheVariants.Ordered as ordered, declared.entry.Wanted.Wanted}
+use Rattle.desk_model.specs.{declared.objects.Authorization.Authorization, declared.objects.Challenge.Challenge, declared.objects.Order.Order}
+use Rattle.desk_model.specs.{declared.rows.AuthorizationRow.AuthorizationRow, declared.status.AuthzStatus.AuthzStatus}
+use Rattle.desk_model.specs.{declared.entry.Wanted.TheVariants.New as new, declared.entry.Wanted.TheVariants.Reused as reused}
+use Rattle.model_laws.specs.{Ordered.Ascends, Ordered.Below, Reused.OfReused}
 use Rattle.model_laws.proofs.Basics.{each, each_both, each_of_map, find-append}
-use Rattle.model_laws.proofs.{Finds.found_moved, Local.moved_number}
 use Rattle.model_laws.proofs.RowLists.{ascends_above, ascends_found, ascends_map, none_below, numbered_ascends}
-use Rattle.model_laws.proofs.OrderFacts.{made_by_numbered, numbers_listed}
+use Rattle.model_laws.proofs.{Finds.found_moved, Local.moved_number, OrderFacts.made_by_numbered, OrderFacts.numbers_listed}
 use Rattle.core_changes.specs.Made.{AreReusable, made_row, made_rows}
 use Rattle.desk_book.proofs.SweptRows.{find-moved}
 
 -- the numbers of new rows go up
 pub made_ascends : (m account expires : ℕ) (wanted : List Wanted) (n c : ℕ)
     → Ascends (λ r. r.number) n (made_rows m (made_for account m (m + expires) wanted n c))
-made_ascends m account life wanted n c =
-    ascends_map (λ a. a.number) (λ r. r.number) (made_row m) (λ a. refl) n (made_for account m (m + life) wanted n c)
-    (numbered_ascends (λ a. a.number) n (made_for account m (m + life) wanted n c) (made_by_numbered (ordered account wanted) m life n c))
+made_ascends m account life wanted n c = grind (arith, ascends_map, numbered_ascends, (made_by_numbered (ordered account wanted) m life n c))
 
 -- what is not found among some items is looked for among the others
 pub find-after : {X : Type 0} (p : X → Bool) (xs ys : List X) → find p xs ≡ None → find p (xs ++ ys) ≡ find p ys
 find-after p [] ys none = refl
-find-after {X} p (x ∷ xs) ys none = by (p x) none (find-after p xs ys)
-  where
-    by : (b : Bool) → cond b (Some x) (find p xs) ≡ None → (find p xs ≡ None → find p (xs ++ ys) ≡ find p ys) → cond b (Some x) (find p (xs ++ ys)) ≡ find p ys
-    by true e ih = cc
-    by false e ih = ih e
+find-after {X} p (x ∷ xs) ys none = grind (arith, (find-after p xs ys))
 
 -- the authorizations that stood have none of the new numbers
 pub stood_before : (T : Tables) (m account n : ℕ) (wanted : List Wanted)
@@ -66,9 +54,7 @@ none_reported (c ∷ cs) = none_reported cs
 
 -- an authorization that is just made is pending
 made_waits : (m life : ℕ) (a : Authorization) → a.expires ≡ m + life → is_pending (made_row m a).status ≡ true
-made_waits m life a ends =
-    let now : nat_lt a.expires m ≡ false = le-ltb _ _ (omega (arith, ends)) in
-    λ i. is_pending (authorization_status_by None (now i) (none_reported a.challenges i))
+made_waits m life a ends = search (rules, none_reported)
 
 -- new authorizations end then
 made_ends : (account date expires : ℕ) (ws : List Wanted) (n c : ℕ) → EachOf (λ a. a.expires ≡ expires) (made_for account date expires ws n c)
@@ -117,9 +103,7 @@ made_wait T m account wanted below =
 -- a row that stood is found after the entry as it was
 pub stood_found : (T : Tables) (m account n : ℕ) (wanted : List Wanted) (row : AuthorizationRow) → authorization_numbered n T.authorizations ≡ Some row →
     authorization_numbered n (authorizations_after T (ordered account wanted) m) ≡ Some row
-stood_found T m account n wanted row found =
-    find-append (λ a. a.number == n) (map (moved_authorization (ordered account wanted) m T.accounts) T.authorizations) _ row
-    (found_moved (λ a. a.number == n) (moved_authorization (ordered account wanted) m T.accounts) (λ a. refl) T.authorizations row found)
+stood_found T m account n wanted row found = search (rules, common_steps, arith, find-append, found_moved)
 
 -- so what was valid stands
 reusable_after : (T : Tables) (m account : ℕ) (wanted : List Wanted) (ws : List Wanted) → AreReusable T.authorizations ws →
@@ -131,31 +115,18 @@ reusable_after T m account wanted (reused name n ∷ ws) h =
   where
     by : (o : Option AuthorizationRow) → authorization_numbered n T.authorizations ≡ o → holds (λ r. is_valid r.status) o ≡ true →
         IsReusable (authorizations_after T (ordered account wanted) m) n
-    by None e k = cc
-    by (Some row) e k = ap (holds (λ r. is_valid r.status)) (stood_found T m account n wanted row e) ∙ k
+    by o l k = grind (arith, stood_found)
 
 -- ---- its status
 
 -- a status that is pending or valid is not over
 waits_on : (o : Option AuthorizationRow) (rest : List AuthzStatus) → holds (λ r. is_pending r.status) o ≡ true →
     (list_any is_over (and_status o rest) ≡ list_any is_over rest) × (list_all is_valid (and_status o rest) ≡ false)
-waits_on None rest h = cc
-waits_on (Some row) rest h = by row.status h
-  where
-    by : (s : AuthzStatus) → is_pending s ≡ true → ((is_over s || list_any is_over rest) ≡ list_any is_over rest)
-        × ((is_valid s && list_all is_valid rest) ≡ false)
-    by authz.Pending k = (refl, refl)
-    by _ k = cc
+waits_on o rest h = search rules
 
 valid_on : (o : Option AuthorizationRow) (rest : List AuthzStatus) → holds (λ r. is_valid r.status) o ≡ true →
     (list_any is_over (and_status o rest) ≡ list_any is_over rest) × (list_all is_valid (and_status o rest) ≡ list_all is_valid rest)
-valid_on None rest h = cc
-valid_on (Some row) rest h = by row.status h
-  where
-    by : (s : AuthzStatus) → is_valid s ≡ true →
-        ((is_over s || list_any is_over rest) ≡ list_any is_over rest) × ((is_valid s && list_all is_valid rest) ≡ list_all is_valid rest)
-    by authz.Valid k = (refl, refl)
-    by _ k = cc
+valid_on o rest h = search rules
 
 -- none of its authorizations is over
 none_over : (rows : List AuthorizationRow) (account date expires : ℕ) (ws : List Wanted) (n c : ℕ) →
@@ -184,18 +155,7 @@ pub status_is_made : (T : Tables) (m account : ℕ) (wanted : List Wanted) (o : 
     Below (λ a. a.number) (T.meta.counters.authorizations + 1) T.authorizations → AreReusable T.authorizations wanted →
     o.authorizations ≡ listed_by wanted (T.meta.counters.authorizations + 1) → o.expires ≡ m + T.meta.policy.order_life →
     derived_order m (authorizations_after T (ordered account wanted) m) (fresh_order o) ≡ made_status wanted
-status_is_made T m account wanted o below reusable lists ends =
-    let rows : List AuthorizationRow = authorizations_after T (ordered account wanted) m in
-    let first : ℕ = T.meta.counters.authorizations + 1 in
-    let ns : List ℕ = listed_by wanted first in
-    let waiting = made_wait T m account wanted below in
-    let again = reusable_after T m account wanted wanted reusable in
-    let now : nat_lt o.expires m ≡ false = le-ltb _ _ (omega (arith, ends)) in
-    let same : stored_statuses rows (numbers_of (fresh_order o).listed) ≡ stored_statuses rows ns =
-    ap (stored_statuses rows) (numbers_listed 1 o.authorizations ∙ lists) in
-    rw (same, now) (ap (λ b. order_status_by false b false (list_all is_valid (stored_statuses rows ns)))
-    (none_over rows account m (m + T.meta.policy.authz_life) wanted first (T.meta.counters.challenges + 1) waiting again)
-    ∙ status_made rows account m (m + T.meta.policy.authz_life) wanted first (T.meta.counters.challenges + 1) waiting again)
+status_is_made T m account wanted o below reusable lists ends = grind (arith, nat_tests, made_wait, reusable_after, le-ltb, numbers_listed, none_over, status_made, (made_wait T m account wanted below), (reusable_after T m account wanted wanted reusable), (numbers_listed 1 o.authorizations ∙ lists))
 
 -- what an order may want is valid
 pub wanted_reusable : (T : Tables) (account : ℕ) (ws : List Wanted) → list_all (may_want_on T account) ws ≡ true → AreReusable T.authorizations ws
@@ -206,5 +166,4 @@ wanted_reusable T account (reused name n ∷ ws) h =
     (by (authorization_numbered n T.authorizations) p.0, wanted_reusable T account ws p.1)
   where
     by : (o : Option AuthorizationRow) → holds (serves account name (order_end T)) o ≡ true → holds (λ r. is_valid r.status) o ≡ true
-    by None k = cc
-    by (Some row) k = (and_parts (is_valid row.status) _ k).0
+    by o k = grind arith

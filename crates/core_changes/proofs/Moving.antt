@@ -1,27 +1,20 @@
 -- What is recorded of moves, and of a new order.
-use Rattle.std.proofs.Common.{◌≡◌, ℕ, ◌+◌, List, [], ◌∷◌, ◌++◌, map, length, refl, sym, ap, subst, ◌∙◌, append-nil, add-zero, ◌<◌}
-use Rattle.desk_model.specs.{Tables.Tables, History.terms_after, Nonce.issued_by, Account.opened_by, Authorization.count_challenges, Entry.entry_of}
-use Rattle.desk_model.specs.{Terms.Terms, declared.entry.Entry.Entry, declared.entry.Move.Move, declared.objects.Account.Account}
-use Rattle.desk_model.specs.declared.{objects.Authorization.Authorization, objects.Nonce.Nonce, objects.Order.Order, rows.Counters.Counters}
-use Rattle.desk_model.specs.declared.{rows.AuthorizationRow.AuthorizationRow, rows.Change.Change, entry.Wanted.Wanted}
-use Rattle.desk_model.specs.Order.{listed_by, ordered_by}
-use Rattle.desk_model.specs.Derived.{restated_authorization, restated_order}
-use Rattle.desk_model.specs.Effect.{effect, effects, swept, swept_authorization, fresh_account, fresh_authorization, fresh_order, moved_authorization}
-use Rattle.desk_model.specs.Effect.{new_authorizations, authorizations_after, noted_account, noted_order, touches_account, touches_authorization, touches_order}
+use Rattle.std.proofs.Common.{◌≡◌, ℕ, ◌+◌, List, [], ◌∷◌, ◌++◌, map, refl, sym, ap, subst, ◌∙◌, arith, rules}
+use Rattle.std.proofs.lemmas.Bool.Decides.{nat_tests}
+use Rattle.desk_model.specs.Effect.{effect, effects, swept, fresh_order, moved_authorization, new_authorizations, authorizations_after, noted_account}
+use Rattle.desk_model.specs.Effect.{noted_order, touches_account, touches_authorization, touches_order}
 use Rattle.desk_model.specs.Change.{changes, moved_rows, account_differs, authorization_differs, order_differs, spent_by}
 use Rattle.desk_model.specs.declared.entry.Entry.TheVariants.{Issued as issued, Ordered as ordered, Spent as spent}
-use Rattle.desk_model.specs.declared.entry.Move.TheVariants as move
-use Rattle.desk_model.specs.declared.rows.Change.TheVariants.{PutNonce, RemoveNonce, PutAccount, PutAuthorization, PutOrder}
+use Rattle.desk_model.specs.declared.rows.Change.TheVariants.{PutAccount, PutAuthorization, PutOrder}
+use Rattle.desk_model.specs.{Tables.Tables, History.terms_after, Nonce.issued_by, Account.opened_by, Entry.entry_of, Terms.Terms, declared.entry.Entry.Entry}
+use Rattle.desk_model.specs.{declared.entry.Move.Move, declared.rows.Counters.Counters, declared.rows.AuthorizationRow.AuthorizationRow}
+use Rattle.desk_model.specs.{declared.rows.Change.Change, declared.entry.Wanted.Wanted, Order.ordered_by, Derived.restated_order}
 use Rattle.model_laws.specs.Ordered.{Below, IsOrdered}
-use Rattle.model_laws.proofs.Basics.{each, each-map}
-use Rattle.model_laws.proofs.Plain.{issued_effect, spent_effect}
+use Rattle.model_laws.proofs.{Basics.each, Basics.each-map, Plain.issued_effect, Plain.spent_effect}
 use Rattle.core_changes.specs.Made.{AreReusable, next_order, next_rows, ordered_counters}
-use Rattle.core_changes.proofs.MadeRows.{status_is_made}
+use Rattle.core_changes.specs.{Moved.swept_rows, Moved.stated_authorization, Recorded.IsRecorded, Recorded.IsUntouched, Recorded.book_moves}
 use Rattle.core_changes.proofs.QuietEntries.{issued_counters, quiet_changes, spent_counters}
-use Rattle.desk_book.proofs.SweptRows.{swept_authorization-status}
-use Rattle.core_changes.specs.Moved.{swept_rows, stated_authorization}
-use Rattle.core_changes.specs.Recorded.{IsRecorded, IsUntouched, book_moves}
-use Rattle.core_changes.proofs.Recordings.{counters_then, one_more}
+use Rattle.core_changes.proofs.{MadeRows.status_is_made, Recordings.counters_then, Recordings.one_more}
 
 -- what an entry of a move makes: nothing
 pub record MakesNothing (m : ℕ) (T : Tables) (e : Entry) : Type 0 where
@@ -33,32 +26,11 @@ pub record MakesNothing (m : ℕ) (T : Tables) (e : Entry) : Type 0 where
   pub orders : (first : ℕ) → ordered_by e m T.meta.policy first (T.meta.counters.orders + 1) ≡ []
 
 pub makes_nothing : (m : ℕ) (T : Tables) (v : Move) → MakesNothing m T (entry_of v)
-makes_nothing m T (move.Answered n) = record { policy = refl; unspent = refl; nonces = refl; accounts = refl; authorizations = refl; orders = λ first. refl }
-makes_nothing m T _ = record { policy = refl; unspent = refl; nonces = refl; accounts = refl; authorizations = refl; orders = λ first. refl }
+makes_nothing m T v = search rules
 
 -- the counters stay, but for the clock
 pub moving_counters : (m : ℕ) (T : Tables) (v : Move) → (effect m T (entry_of v)).meta.counters ≡ record T.meta.counters { clock = m }
-moving_counters m T v =
-    let none : MakesNothing m T (entry_of v) = makes_nothing m T v in
-    λ i. record T.meta.counters {
-      clock = m;
-      nonces = (ap (λ (l : List Nonce). T.meta.counters.nonces + length l) none.nonces ∙ add-zero T.meta.counters.nonces) i;
-      accounts = (ap (λ (l : List Account). T.meta.counters.accounts + length l) none.accounts ∙ add-zero T.meta.counters.accounts) i;
-      orders = (ap (λ (l : List Order). T.meta.counters.orders + length l) (none.orders (T.meta.counters.authorizations + 1))
-          ∙ add-zero T.meta.counters.orders) i;
-      authorizations = (ap (λ (l : List Authorization). T.meta.counters.authorizations + length l) none.authorizations
-          ∙ add-zero T.meta.counters.authorizations) i;
-      challenges = (ap (λ (l : List Authorization). T.meta.counters.challenges + count_challenges l) none.authorizations
-          ∙ add-zero T.meta.counters.challenges) i;
-    }
-
--- the authorizations after it are those that stood, moved
-pub moving_after : (m : ℕ) (T : Tables) (v : Move) → authorizations_after T (entry_of v) m
-    ≡ map (moved_authorization (entry_of v) m T.accounts) T.authorizations
-moving_after m T v =
-    ap (λ l. map (moved_authorization (entry_of v) m T.accounts) T.authorizations ++ map (λ a. restated_authorization m (fresh_authorization a)) l)
-    (makes_nothing m T v).authorizations
-    ∙ append-nil (map (moved_authorization (entry_of v) m T.accounts) T.authorizations)
+moving_counters m T v = grind arith
 
 -- the rows that it moves, one table after the other
 abbrev pub moves : ℕ → Tables → Entry → List Change
@@ -70,38 +42,7 @@ moves m T e =
 
 -- and nothing else is recorded of it
 pub moving_changes : (m : ℕ) (T : Tables) (v : Move) → changes m T (entry_of v) ≡ moves m T (entry_of v)
-moving_changes m T v =
-    λ i. map RemoveNonce (none.unspent i)
-    ++ (map PutNonce (none.nonces i)
-    ++ (map PutAccount (accounts i) ++ (map PutAuthorization (authorizations i) ++ map PutOrder (orders i))))
-  where
-    e : Entry
-    e = entry_of v
-
-    none : MakesNothing m T e
-    none = makes_nothing m T v
-
-    accounts : moved_rows (touches_account e) account_differs (noted_account e m) T.accounts ++ map fresh_account (opened_by e m (T.meta.counters.accounts + 1))
-        ≡ moved_rows (touches_account e) account_differs (noted_account e m) T.accounts
-    accounts = ap (λ l. moved_rows (touches_account e) account_differs (noted_account e m) T.accounts ++ map fresh_account l) none.accounts ∙ append-nil _
-
-    authorizations : moved_rows (touches_authorization e) authorization_differs (stated_authorization e m T.accounts) T.authorizations
-        ++ map (λ a. restated_authorization m (fresh_authorization a)) (new_authorizations T e m)
-        ≡ moved_rows (touches_authorization e) authorization_differs (stated_authorization e m T.accounts) T.authorizations
-    authorizations = ap (λ l. moved_rows (touches_authorization e) authorization_differs (stated_authorization e m T.accounts) T.authorizations
-        ++ map (λ a. restated_authorization m (fresh_authorization a)) l) none.authorizations ∙ append-nil _
-
-    orders : moved_rows (touches_order e T.authorizations) order_differs (λ r. restated_order m (authorizations_after T e m) (noted_order e m r)) T.orders
-        ++ map (λ o. restated_order m (authorizations_after T e m) (fresh_order o))
-        (ordered_by e m T.meta.policy (T.meta.counters.authorizations + 1) (T.meta.counters.orders + 1))
-        ≡ moved_rows (touches_order e T.authorizations) order_differs
-        (λ r. restated_order m (map (moved_authorization e m T.accounts) T.authorizations) (noted_order e m r)) T.orders
-    orders =
-        ap (λ l. moved_rows (touches_order e T.authorizations) order_differs (λ r. restated_order m (authorizations_after T e m) (noted_order e m r)) T.orders
-        ++ map (λ o. restated_order m (authorizations_after T e m) (fresh_order o)) l) (none.orders (T.meta.counters.authorizations + 1))
-        ∙ append-nil _
-        ∙ ap (λ rows. moved_rows (touches_order e T.authorizations) order_differs (λ r. restated_order m rows (noted_order e m r)) T.orders)
-        (moving_after m T v)
+moving_changes m T v = search (rules, makes_nothing)
 
 same_moves : (m : ℕ) (B : Tables) (es : List Entry) (e : Entry) → IsUntouched m B es → moves m (effects m (swept m B) es) e ≡ book_moves m B e
 same_moves m B es e h =
@@ -125,11 +66,7 @@ and_moved m B es v done counters untouched h =
 -- the counters after it
 counters_ordered : (m : ℕ) (T : Tables) (account : ℕ) (wanted : List Wanted) →
     (effect m T (ordered account wanted)).meta.counters ≡ ordered_counters T.meta.policy (record T.meta.counters { clock = m }) account wanted
-counters_ordered m T account wanted =
-    λ i. record (ordered_counters T.meta.policy (record T.meta.counters { clock = m }) account wanted) {
-      nonces = add-zero T.meta.counters.nonces i;
-      accounts = add-zero T.meta.counters.accounts i;
-    }
+counters_ordered m T account wanted = search rules
 
 -- its row
 pub ordered_one : (m : ℕ) (T : Tables) (account : ℕ) (wanted : List Wanted) → Below (λ a. a.number) (T.meta.counters.authorizations + 1) T.authorizations →
@@ -138,16 +75,7 @@ pub ordered_one : (m : ℕ) (T : Tables) (account : ℕ) (wanted : List Wanted) 
     map (λ o. restated_order m (authorizations_after T e m) (fresh_order o))
     (ordered_by e m T.meta.policy (T.meta.counters.authorizations + 1) (T.meta.counters.orders + 1))
     ≡ next_order T.meta.policy (record T.meta.counters { clock = m }) account wanted ∷ [])
-ordered_one m T account wanted below reusable =
-    let o : Order =
-    record {
-      number = T.meta.counters.orders + 1;
-      account = account;
-      made = m;
-      expires = m + T.meta.policy.order_life;
-      authorizations = listed_by wanted (T.meta.counters.authorizations + 1);
-    } in
-    ap (λ s. record (fresh_order o) { status = s } ∷ []) (status_is_made T m account wanted o below reusable refl refl)
+ordered_one m T account wanted below reusable = search (rules, status_is_made)
 
 -- what is recorded of it
 ordered_changes : (m : ℕ) (T : Tables) (account : ℕ) (wanted : List Wanted) → Below (λ a. a.number) (T.meta.counters.authorizations + 1) T.authorizations →
@@ -162,9 +90,7 @@ ordered_changes m T account wanted below reusable =
 
 -- the authorizations that stand at the moment have no later number
 pub below_swept : (m n : ℕ) (rows : List AuthorizationRow) → Below (λ a. a.number) n rows → Below (λ a. a.number) n (swept_rows m rows)
-below_swept m n rows h =
-    each-map (λ a. a.number < n) (swept_authorization m) rows
-    (each _ _ rows (λ a lt. subst (λ k. k < n) (ap (λ (r : AuthorizationRow). r.number) (swept_authorization-status m a)) lt) h)
+below_swept m n rows h = search (rules, each-map, each)
 
 -- a new order is recorded
 pub and_ordered : (m : ℕ) (B : Tables) (es : List Entry) (policy : Terms) (account : ℕ) (wanted : List Wanted) (done : List Change) (counters : Counters) →
@@ -190,22 +116,12 @@ and_ordered m B es policy account wanted done counters same is untouched reusabl
 
 -- a nonce spent, and one issued
 pub untouched_nonces : (m : ℕ) (B : Tables) (n : ℕ) (r : List ℕ) → IsUntouched m B (spent n ∷ issued r ∷ [])
-untouched_nonces m B n r =
-    record {
-      counters =
-          issued_counters m (effect m (swept m B) (spent n)) r
-          ∙ (λ i. record (spent_counters m (swept m B) n i) { clock = m; nonces = (effect m (swept m B) (spent n)).meta.counters.nonces + 1 })
-          ∙ (λ i. record B.meta.counters {
-            clock = m;
-            nonces = sym (ap (λ (x : Counters). x.nonces) (issued_counters m (effect m (swept m B) (spent n)) r)) i;
-          });
-      accounts = ap (λ (T : Tables). T.accounts) (issued_effect m (effect m (swept m B) (spent n)) r)
-          ∙ ap (λ (T : Tables). T.accounts) (spent_effect m (swept m B) n);
-      authorizations = ap (λ (T : Tables). T.authorizations) (issued_effect m (effect m (swept m B) (spent n)) r)
-          ∙ ap (λ (T : Tables). T.authorizations) (spent_effect m (swept m B) n);
-      orders = ap (λ (T : Tables). T.orders) (issued_effect m (effect m (swept m B) (spent n)) r)
-          ∙ ap (λ (T : Tables). T.orders) (spent_effect m (swept m B) n);
-    }
+untouched_nonces m B n r = record {
+  counters = grind (arith, nat_tests, issued_counters, spent_counters);
+  accounts = grind (arith, nat_tests, issued_effect, spent_effect);
+  authorizations = ap (λ (T : Tables). T.authorizations) (issued_effect m (effect m (swept m B) (spent n)) r) ∙ ap (λ (T : Tables). T.authorizations) (spent_effect m (swept m B) n);
+  orders = ap (λ (T : Tables). T.orders) (issued_effect m (effect m (swept m B) (spent n)) r) ∙ ap (λ (T : Tables). T.orders) (spent_effect m (swept m B) n);
+}
 
 -- none
 pub untouched_none : (m : ℕ) (B : Tables) → IsUntouched m B []

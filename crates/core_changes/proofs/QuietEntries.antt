@@ -1,15 +1,15 @@
 -- What entries that touch no standing row do to the tables, and what they record.
-use Rattle.std.proofs.Common.{◌≡◌, ℕ, ◌+◌, List, [], ◌∷◌, ◌++◌, map, filter, Bool, false, cond, Option, Some, None, refl, ap, ◌∙◌, add-zero}
-use Rattle.std.specs.Prelude.{◌&&◌, ◌||◌}
+use Rattle.std.proofs.Common.{◌≡◌, ℕ, ◌+◌, List, [], ◌∷◌, ◌++◌, map, filter, Bool, false, cond, Option, None, refl, ap, ◌∙◌, add-zero, arith, rules}
+use Rattle.std.specs.Prelude.{◌||◌}
 use Rattle.desk_model.specs.{Tables.Tables, Lookup.holds, Account.opened_by, Order.ordered_by, declared.rows.Counters.Counters, declared.objects.Nonce.Nonce}
 use Rattle.desk_model.specs.declared.{entry.Entry.Entry, rows.AccountRow.AccountRow, rows.AuthorizationRow.AuthorizationRow, rows.OrderRow.OrderRow}
 use Rattle.desk_model.specs.declared.rows.Change.TheVariants.{PutNonce, RemoveNonce, PutAccount, PutAuthorization, PutOrder}
 use Rattle.desk_model.specs.declared.entry.Entry.TheVariants.{Issued as issued, Spent as spent, Opened as opened}
-use Rattle.desk_model.specs.declared.status.AccountStatus.TheVariants as account
 use Rattle.desk_model.specs.Derived.{numbers_of, authorization_numbered, restated_authorization, restated_order}
-use Rattle.desk_model.specs.Effect.{effect, noted_account, noted_authorization, noted_order, touches_account, touches_authorization, touches_order, names_order}
+use Rattle.desk_model.specs.Effect.{effect, touches_account, touches_authorization, touches_order, names_order}
 use Rattle.desk_model.specs.Effect.{lists_one, fresh_account, fresh_authorization, fresh_order, new_authorizations, authorizations_after}
-use Rattle.desk_model.specs.Change.{changes, moved_rows, account_differs, authorization_differs, order_differs, spent_by, nonces_put}
+use Rattle.desk_model.specs.Change.{changes, moved_rows, spent_by, nonces_put}
+use Rattle.desk_model.specs.declared.status.AccountStatus.TheVariants as account
 
 -- the same counters with nothing added
 abbrev with_nonces : ℕ → ℕ → Counters → Counters
@@ -25,15 +25,7 @@ counted : (m more : ℕ) (old : Counters) →
       challenges = old.challenges + 0;
     } in
     now ≡ with_nonces m more old)
-counted m more old =
-    λ i. record old {
-      clock = m;
-      nonces = old.nonces + more;
-      accounts = add-zero old.accounts i;
-      orders = add-zero old.orders i;
-      authorizations = add-zero old.authorizations i;
-      challenges = add-zero old.challenges i;
-    }
+counted m more old = search rules
 
 -- the counters after a nonce is spent
 pub spent_counters : (m : ℕ) (T : Tables) (n : ℕ) → (effect m T (spent n)).meta.counters ≡ record T.meta.counters { clock = m }
@@ -47,15 +39,7 @@ issued_counters m T r = counted m 1 T.meta.counters
 -- the counters after an account is opened
 pub opened_counters : (m : ℕ) (T : Tables) (key : List ℕ) (contacts : List (List ℕ))
     → (effect m T (opened key contacts)).meta.counters ≡ record T.meta.counters { clock = m; accounts = T.meta.counters.accounts + 1 }
-opened_counters m T key contacts =
-    λ i. record T.meta.counters {
-      clock = m;
-      nonces = add-zero T.meta.counters.nonces i;
-      accounts = T.meta.counters.accounts + 1;
-      orders = add-zero T.meta.counters.orders i;
-      authorizations = add-zero T.meta.counters.authorizations i;
-      challenges = add-zero T.meta.counters.challenges i;
-    }
+opened_counters m T key contacts = search rules
 
 filter_none : {X : Type 0} (p : X → Bool) (xs : List X) → ((x : X) → p x ≡ false) → filter p xs ≡ []
 filter_none p [] h = refl
@@ -69,8 +53,7 @@ order_untouched e T r none unnamed =
     ∙ lists_none (numbers_of r.listed)
   where
     found : (o : Option AuthorizationRow) → holds (touches_authorization e) o ≡ false
-    found None = refl
-    found (Some a) = none a
+    found o = grind arith
 
     lists_none : (ns : List ℕ) → lists_one (touches_authorization e) T.authorizations ns ≡ false
     lists_none [] = refl
@@ -78,8 +61,7 @@ order_untouched e T r none unnamed =
 
 unmoved_rows : {X : Type 0} (touched : X → Bool) (differs : X → X → Bool) (move : X → X) (xs : List X) → ((x : X) → touched x ≡ false)
     → moved_rows touched differs move xs ≡ []
-unmoved_rows touched differs move xs none =
-    ap (map move) (filter_none (λ r. touched r && differs r (move r)) xs (λ x. ap (λ b. b && differs x (move x)) (none x)))
+unmoved_rows touched differs move xs none = search (rules, filter_none)
 
 -- an entry that touches no row that stands records what it makes
 pub quiet_changes : (m : ℕ) (T : Tables) (e : Entry) → ((a : AccountRow) → touches_account e a ≡ false)
@@ -91,19 +73,7 @@ pub quiet_changes : (m : ℕ) (T : Tables) (e : Entry) → ((a : AccountRow) →
     ++ (map PutAuthorization (map (λ a. restated_authorization m (fresh_authorization a)) (new_authorizations T e m))
     ++ map PutOrder (map (λ o. restated_order m (authorizations_after T e m) (fresh_order o))
     (ordered_by e m T.meta.policy (T.meta.counters.authorizations + 1) (T.meta.counters.orders + 1))))))
-quiet_changes m T e no_account no_authorization no_order =
-    λ i. map RemoveNonce (spent_by e)
-    ++ (map PutNonce (nonces_put T e m)
-    ++ (map PutAccount (unmoved_rows (touches_account e) account_differs (noted_account e m) T.accounts no_account i
-    ++ map fresh_account (opened_by e m (T.meta.counters.accounts + 1)))
-    ++ (map PutAuthorization (unmoved_rows (touches_authorization e) authorization_differs
-    (λ r. restated_authorization m (noted_authorization e m T.accounts r)) T.authorizations no_authorization i
-    ++ map (λ a. restated_authorization m (fresh_authorization a)) (new_authorizations T e m))
-    ++ map PutOrder (unmoved_rows (touches_order e T.authorizations) order_differs
-    (λ r. restated_order m (authorizations_after T e m) (noted_order e m r)) T.orders
-    (λ r. order_untouched e T r no_authorization (no_order r.number)) i
-    ++ map (λ o. restated_order m (authorizations_after T e m) (fresh_order o))
-    (ordered_by e m T.meta.policy (T.meta.counters.authorizations + 1) (T.meta.counters.orders + 1))))))
+quiet_changes m T e no_account no_authorization no_order = search (rules, unmoved_rows, order_untouched)
 
 -- what is recorded of a nonce that is spent
 pub spent_changes : (m : ℕ) (T : Tables) (n : ℕ) → changes m T (spent n) ≡ RemoveNonce n ∷ []

@@ -1,24 +1,20 @@
 -- What is recorded, entry by entry.
-use Rattle.std.proofs.Common.{◌≡◌, ℕ, ◌+◌, ◌-◌, List, [], ◌∷◌, ◌++◌, length, None, Some, Result, Ok, Err, OnOk}
-use Rattle.std.proofs.Common.{refl, sym, ap, ◌∙◌, append-nil, append_assoc, arith}
-use Rattle.std.specs.Prelude.{option_and_then, slice_get}
-use Rattle.std.proofs.lemmas.List.{length-append}
-use Rattle.desk_model.specs.{Tables.Tables, Terms.Terms}
-use Rattle.desk_model.specs.Effect.{effect, effects, swept}
+use Rattle.std.proofs.Common.{◌≡◌, ℕ, ◌+◌, ◌-◌, List, [], ◌∷◌, ◌++◌, length, None, Some, Result, OnOk, refl, sym, ap, ◌∙◌, append-nil, append_assoc, arith}
+use Rattle.std.proofs.Common.{rules}
+use Rattle.std.proofs.{lemmas.List.length-append, lemmas.Bool.Decides.nat_tests}
+use Rattle.std.specs.Prelude.{slice_get}
 use Rattle.desk_model.specs.Change.{changes, all_changes, recorded_changes, sweep_changes}
-use Rattle.desk_model.specs.declared.{objects.Nonce.Nonce, entry.Entry.Entry}
-use Rattle.desk_model.specs.declared.rows.{AccountRow.AccountRow, OrderRow.OrderRow, Change.Change, Counters.Counters}
 use Rattle.desk_model.specs.declared.rows.Change.TheVariants.{PutMeta, PutNonce, RemoveNonce, PutAccount, PutOrder}
+use Rattle.desk_model.specs.{Tables.Tables, Terms.Terms, Effect.effect, Effect.effects, Effect.swept, declared.objects.Nonce.Nonce}
+use Rattle.desk_model.specs.{declared.rows.AccountRow.AccountRow, declared.rows.OrderRow.OrderRow, declared.rows.Change.Change, declared.rows.Counters.Counters}
+use Rattle.desk_model.specs.declared.entry.Entry.{Entry, TheVariants.Issued as issued, TheVariants.Spent as spent, TheVariants.Opened as opened}
 use Rattle.desk_model.specs.declared.status.AccountStatus.TheVariants as account
-use Rattle.desk_model.specs.declared.entry.Entry.TheVariants.{Issued as issued, Spent as spent, Opened as opened}
-use Rattle.core_changes.specs.Recorded.{IsRecorded, account_put, last_account, last_change, last_order, order_put}
+use Rattle.core_changes.specs.Recorded.{IsRecorded, last_account, last_change, last_order}
 use Rattle.core_changes.proofs.QuietEntries.{spent_counters, spent_changes, issued_counters, issued_changes, opened_counters, opened_changes}
 
 all_changes-last : (m : ℕ) (T : Tables) (es : List Entry) (e : Entry) → all_changes m T (es ++ e ∷ []) ≡ all_changes m T es ++ changes m (effects m T es) e
 all_changes-last m T [] e = append-nil (changes m T e)
-all_changes-last m T (d ∷ es) e =
-    ap (λ l. changes m T d ++ l) (all_changes-last m (effect m T d) es e)
-    ∙ sym (append_assoc (changes m T d) (all_changes m (effect m T d) es) (changes m (effects m (effect m T d) es) e))
+all_changes-last m T (d ∷ es) e = grind (arith, append_assoc, (all_changes-last m (effect m T d) es e))
 
 effects-last : (m : ℕ) (T : Tables) (es : List Entry) (e : Entry) → effects m T (es ++ e ∷ []) ≡ effect m (effects m T es) e
 effects-last m T [] e = refl
@@ -37,24 +33,12 @@ begun m B done counters c r = record { changes = c ∙ sym (append-nil (sweep_ch
 pub one_more : (m : ℕ) (B : Tables) (es : List Entry) (e : Entry) (done more : List Change) (counters after : Counters) → IsRecorded m B es done counters →
     more ≡ changes m (effects m (swept m B) es) e → after ≡ (effect m (effects m (swept m B) es) e).meta.counters →
     (effect m (effects m (swept m B) es) e).meta.policy ≡ (effects m (swept m B) es).meta.policy → IsRecorded m B (es ++ e ∷ []) (done ++ more) after
-one_more m B es e done more counters after h c r p =
-    record {
-      changes =
-          ap (λ l. l ++ more) h.changes
-          ∙ ap (λ l. (sweep_changes m B ++ all_changes m (swept m B) es) ++ l) c
-          ∙ append_assoc (sweep_changes m B) (all_changes m (swept m B) es) (changes m (effects m (swept m B) es) e)
-          ∙ ap (λ l. sweep_changes m B ++ l) (sym (all_changes-last m (swept m B) es e));
-      counted = r ∙ ap (λ (T : Tables). T.meta.counters) (sym (effects-last m (swept m B) es e));
-      policy = ap (λ (T : Tables). T.meta.policy) (effects-last m (swept m B) es e) ∙ p ∙ h.policy;
-    }
+one_more m B es e done more counters after h c r p = search (rules, append_assoc, all_changes-last, effects-last)
 
 -- with the meta row at the end, all of it is
 pub finished : (m : ℕ) (B : Tables) (e : Entry) (es : List Entry) (done all : List Change) (counters : Counters) (policy : Terms) → B.meta.policy ≡ policy →
     all ≡ done ++ PutMeta (record { policy = policy; counters = counters }) ∷ [] → IsRecorded m B (e ∷ es) done counters → all ≡ recorded_changes m B (e ∷ es)
-finished m B e es done all counters policy same put h =
-    put
-    ∙ (λ i. h.changes i ++ PutMeta (record { policy = sym (h.policy ∙ same) i; counters = h.counted i }) ∷ [])
-    ∙ append_assoc (sweep_changes m B) (all_changes m (swept m B) (e ∷ es)) (PutMeta (effects m (swept m B) (e ∷ es)).meta ∷ [])
+finished m B e es done all counters policy same put h = search (rules, append_assoc)
 
 -- the clock of what is recorded
 pub clock_is : (m : ℕ) (B : Tables) (es : List Entry) (done : List Change) (counters : Counters) → IsRecorded m B es done counters → counters.clock ≡ m
@@ -120,8 +104,7 @@ recorded_as m B es done other counters others c r h = record { changes = c ∙ h
 
 -- what two clauses give on the way that went well
 pub both_ok : {T E : Type 0} {P Q S : Type 0} (r : Result T E) → OnOk r P → OnOk r Q → (P → Q → S) → OnOk r S
-both_ok (Ok x) p q k = k p q
-both_ok (Err e) p q k = tt
+both_ok r h k l = search rules
 
 -- ---- the row that the last change puts
 
@@ -131,15 +114,11 @@ slice_get-end (d ∷ done) c = slice_get-end done c
 
 -- what was pushed is the last change
 last-pushed : (done : List Change) (c : Change) → last_change (done ++ c ∷ []) ≡ Some c
-last-pushed done c =
-    let before : length (done ++ c ∷ []) - 1 ≡ length done = omega (arith, length-append done (c ∷ [])) in
-    ap (slice_get (done ++ c ∷ [])) before ∙ slice_get-end done c
+last-pushed done c = grind (arith, nat_tests, length-append, slice_get-end, (slice_get-end done c))
 
 -- so an account or an order that was put is found there
 pub last_account-pushed : (done all : List Change) (row : AccountRow) → all ≡ done ++ PutAccount row ∷ [] → last_account all ≡ Some row
-last_account-pushed done all row pushed =
-    ap last_account pushed ∙ ap (option_and_then account_put) (last-pushed done (PutAccount row))
+last_account-pushed done all row pushed = search (rules, last-pushed)
 
 pub last_order-pushed : (done all : List Change) (row : OrderRow) → all ≡ done ++ PutOrder row ∷ [] → last_order all ≡ Some row
-last_order-pushed done all row pushed =
-    ap last_order pushed ∙ ap (option_and_then order_put) (last-pushed done (PutOrder row))
+last_order-pushed done all row pushed = search (rules, last-pushed)

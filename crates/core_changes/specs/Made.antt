@@ -2,12 +2,10 @@
 use Rattle.std.specs.Prelude.{ℕ, ◌+◌, ◌≡◌, List, length, map, None, true}
 use Rattle.model_laws.specs.Reused.{OfReused}
 use Rattle.desk_model.specs.Authorization.{count_challenges, is_valid, made_for}
-use Rattle.desk_model.specs.Derived.{authorization_numbered, restated_authorization}
-use Rattle.desk_model.specs.Effect.{fresh_authorization, fresh_order}
-use Rattle.desk_model.specs.{Kept.EachOf, Lookup.holds, Terms.Terms}
-use Rattle.desk_model.specs.Order.{listed_by, made_status}
-use Rattle.desk_model.specs.declared.{objects.Authorization.Authorization, objects.Order.Order, rows.AuthorizationRow.AuthorizationRow}
-use Rattle.desk_model.specs.declared.{rows.AccountRow.AccountRow, rows.Counters.Counters, rows.OrderRow.OrderRow, entry.Wanted.Wanted}
+use Rattle.desk_model.specs.{Derived.authorization_numbered, Derived.restated_authorization, Effect.fresh_authorization, Effect.fresh_order, Kept.EachOf}
+use Rattle.desk_model.specs.{Lookup.holds, Terms.Terms, Order.listed_by, Order.made_status, declared.objects.Authorization.Authorization}
+use Rattle.desk_model.specs.{declared.objects.Order.Order, declared.rows.AuthorizationRow.AuthorizationRow, declared.rows.AccountRow.AccountRow}
+use Rattle.desk_model.specs.{declared.rows.Counters.Counters, declared.rows.OrderRow.OrderRow, declared.entry.Wanted.Wanted}
 use Rattle.desk_model.specs.declared.status.AccountStatus.TheVariants as account
 
 -- the row of the next account

@@ -1,11 +1,10 @@
 -- The rows of a book after an entry, which stood at its moment before it.
 use Rattle.std.specs.Prelude.{ℕ, ◌≡◌, ◌&&◌, List, [], ◌∷◌, map, Bool, cond, Option, Some, None}
 use Rattle.std.specs.List.{filter}
-use Rattle.desk_model.specs.Derived.{restated_authorization, restated_order}
-use Rattle.desk_model.specs.Effect.{swept_authorization, swept_order, moved_authorization, noted_account, noted_authorization}
-use Rattle.desk_model.specs.Effect.{noted_order, touches_account, touches_authorization, touches_order}
-use Rattle.desk_model.specs.{Entry.entry_of, Tables.Tables}
-use Rattle.desk_model.specs.declared.{entry.Entry.Entry, rows.AccountRow.AccountRow, rows.AuthorizationRow.AuthorizationRow, rows.OrderRow.OrderRow}
+use Rattle.desk_model.specs.Effect.{swept_authorization, swept_order, moved_authorization, noted_account, noted_authorization, noted_order, touches_account}
+use Rattle.desk_model.specs.Effect.{touches_authorization, touches_order}
+use Rattle.desk_model.specs.{Derived.restated_authorization, Derived.restated_order, Entry.entry_of, Tables.Tables, declared.entry.Entry.Entry}
+use Rattle.desk_model.specs.{declared.rows.AccountRow.AccountRow, declared.rows.AuthorizationRow.AuthorizationRow, declared.rows.OrderRow.OrderRow}
 use Rattle.core_changes.specs.declared.moved.Step.{Step}
 
 -- the authorizations at the moment, and after the entry

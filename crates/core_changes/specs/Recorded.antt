@@ -5,8 +5,7 @@ use Rattle.desk_model.specs.declared.rows.{AccountRow.AccountRow, OrderRow.Order
 use Rattle.desk_model.specs.Effect.{effects, swept, swept_order, noted_account, touches_account, touches_authorization, touches_order}
 use Rattle.desk_model.specs.Change.{all_changes, sweep_changes, moved_rows, account_differs, authorization_differs, order_differs}
 use Rattle.desk_model.specs.declared.rows.Change.TheVariants.{PutAccount, PutAuthorization, PutOrder}
-use Rattle.core_changes.specs.Moved.{swept_rows, stated_authorization, stated_order}
-use Rattle.core_changes.specs.declared.recording.Recording.{Recording}
+use Rattle.core_changes.specs.{Moved.swept_rows, Moved.stated_authorization, Moved.stated_order, declared.recording.Recording.Recording}
 
 -- these entries are recorded at m: the changes of rows so far, and the counters after them; the policy stays
 pub record IsRecorded (m : ℕ) (B : Tables) (es : List Entry) (done : List Change) (counters : Counters) : Type 0 where

@@ -1,8 +1,7 @@
 -- The members of a canonical key text, whose names stand in order.
-use Rattle.std.proofs.Common.{◌≡◌, ℕ, List, [], ◌∷◌, ◌++◌, Bool, true, false, cond, refl, sym, ap, subst, ◌∙◌, inl, inr}
-use Rattle.std.specs.Prelude.{◌==◌, codes}
-use Rattle.std.specs.List.{list_all, slice_split, onto_first}
-use Rattle.std.proofs.lemmas.Bool.{and_parts, eqb-true}
+use Rattle.std.proofs.Common.{◌≡◌, ℕ, List, [], ◌∷◌, ◌++◌, true, false, refl, sym, ap, ◌∙◌, inl, inr, arith, rules}
+use Rattle.std.proofs.{lemmas.Bool.and_parts, lemmas.Bool.Decides.nat_tests}
+use Rattle.std.specs.{Prelude.◌==◌, Prelude.codes, List.list_all, List.slice_split}
 use Rattle.serde_json.specs.Data.{no_members}
 use Rattle.desk_model.specs.{Json.members, Document.key_members}
 use Rattle.desk_model.specs.Keys.{Key, ec, rsa, okp, IsCurve, IsKey, IsKeyText, canonical_text, is_base64url_byte}
@@ -13,30 +12,16 @@ use Rattle.core_replies.specs.Shown.{with_members}
 abbrev parts : List ℕ → List (List ℕ)
 parts text = slice_split (λ c. c == 34) text
 
-not_a_mark : (c : ℕ) → is_base64url_byte c ≡ true → (c == 34) ≡ true → (c == 34) ≡ false
-not_a_mark c is e =
-    let same : is_base64url_byte 34 ≡ true = subst (λ (n : ℕ). is_base64url_byte n ≡ true) (eqb-true c 34 e) is in
-    absurd (cc same)
-
 unmarked : (c : ℕ) → is_base64url_byte c ≡ true → (c == 34) ≡ false
-unmarked c is = by (c == 34) refl
-  where
-    by : (b : Bool) → (c == 34) ≡ b → b ≡ false
-    by true e = sym e ∙ not_a_mark c is e
-    by false e = refl
+unmarked c is = grind (arith, nat_tests)
 
 -- what stands before the first mark is one part
 parts-of : (first rest : List ℕ) → list_all is_base64url_byte first ≡ true → parts (first ++ 34 ∷ rest) ≡ first ∷ parts rest
 parts-of [] rest each = refl
-parts-of (c ∷ cs) rest each =
-    ap (λ b. cond b ([] ∷ parts (cs ++ 34 ∷ rest)) (onto_first c (parts (cs ++ 34 ∷ rest))))
-    (unmarked c (and_parts (is_base64url_byte c) (list_all is_base64url_byte cs) each).0)
-    ∙ ap (onto_first c) (parts-of cs rest (and_parts (is_base64url_byte c) (list_all is_base64url_byte cs) each).1)
+parts-of (c ∷ cs) rest each = grind (arith, nat_tests, unmarked, and_parts, (parts-of cs rest (and_parts (is_base64url_byte c) (list_all is_base64url_byte cs) each).1))
 
 curve_bytes : (crv : List ℕ) → IsCurve crv → list_all is_base64url_byte crv ≡ true
-curve_bytes crv (inl e) = ap (list_all is_base64url_byte) e
-curve_bytes crv (inr (inl e)) = ap (list_all is_base64url_byte) e
-curve_bytes crv (inr (inr e)) = ap (list_all is_base64url_byte) e
+curve_bytes crv h = search rules
 
 -- the parts of each canonical text
 parts-canonical : Key → List (List ℕ)

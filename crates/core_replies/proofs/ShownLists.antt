@@ -1,32 +1,22 @@
 -- The lists of a book at a moment, as the tables at that moment have them.
-use Rattle.std.proofs.Common.{◌≡◌, ℕ, List, [], ◌∷◌, sym, ap, ◌∙◌}
+use Rattle.std.proofs.Common.{◌≡◌, ℕ, List, [], ◌∷◌, rules}
 use Rattle.std.specs.{Prelude.codes, List.flat_map}
-use Rattle.desk_model.specs.Document.{challenge_work, order_work, orders_document}
-use Rattle.desk_model.specs.{Effect.swept, Tables.Tables, declared.rows.AuthorizationRow.AuthorizationRow, declared.rows.OrderRow.OrderRow}
-use Rattle.desk_model.specs.Json.{document, list}
+use Rattle.desk_model.specs.{Document.challenge_work, Document.order_work, Document.orders_document, Effect.swept, Tables.Tables}
+use Rattle.desk_model.specs.{declared.rows.AuthorizationRow.AuthorizationRow, declared.rows.OrderRow.OrderRow, Json.document, Json.list}
 use Rattle.core_replies.specs.Shown.{listed_order, order_work_at, work_at}
 use Rattle.core_replies.proofs.ShownWork.{challenges-waiting, orders-listed, orders-waiting}
 
 -- the orders of an account
 pub orders-are : (m account : ℕ) (T S : Tables) (rows : List OrderRow) → rows ≡ T.orders → swept m T ≡ S →
     document ((codes "orders", list (flat_map (listed_order T m account) rows)) ∷ []) ≡ orders_document S account
-orders-are m account T S rows those then =
-    ap (λ os. document ((codes "orders", list (flat_map (listed_order T m account) os)) ∷ [])) those
-    ∙ ap (λ urls. document ((codes "orders", list urls) ∷ [])) (sym (orders-listed m account T))
-    ∙ ap (λ U. orders_document U account) then
+orders-are m account T S rows those then = search (rules, orders-listed)
 
 -- what waits for the validator
 pub challenges-are : (m : ℕ) (T S : Tables) (rows : List AuthorizationRow) → rows ≡ T.authorizations → swept m T ≡ S →
     document ((codes "challenges", list (flat_map (work_at m) rows)) ∷ []) ≡ challenge_work S
-challenges-are m T S rows those then =
-    ap (λ waiting. document ((codes "challenges", list (flat_map (work_at m) waiting)) ∷ [])) those
-    ∙ ap (λ work. document ((codes "challenges", list work) ∷ [])) (sym (challenges-waiting m T))
-    ∙ ap challenge_work then
+challenges-are m T S rows those then = search (rules, challenges-waiting)
 
 -- what waits for the signing office
 pub work-is : (m : ℕ) (T S : Tables) (rows : List OrderRow) → rows ≡ T.orders → swept m T ≡ S →
     document ((codes "orders", list (flat_map (order_work_at m T) rows)) ∷ []) ≡ order_work S
-work-is m T S rows those then =
-    ap (λ os. document ((codes "orders", list (flat_map (order_work_at m T) os)) ∷ [])) those
-    ∙ ap (λ work. document ((codes "orders", list work) ∷ [])) (sym (orders-waiting m T))
-    ∙ ap order_work then
+work-is m T S rows those then = search (rules, orders-waiting)

@@ -1,50 +1,29 @@
 -- What the lists of orders and of work show at a moment, by the rows that stand.
-use Rattle.std.proofs.Common.{◌≡◌, ℕ, List, [], ◌∷◌, ◌++◌, map, filter, Bool, true, false, cond, Option, Some, None, refl, sym, ap, ◌∙◌}
-use Rattle.std.specs.{List.flat_map, Option.option_map, Prelude.codes}
+use Rattle.std.proofs.Common.{◌≡◌, ℕ, List, [], ◌∷◌, ◌++◌, map, filter, Bool, true, cond, refl, sym, ap, ◌∙◌, arith, rules}
 use Rattle.std.proofs.lemmas.Simd.{map-map}
-use Rattle.serde_json.specs.Data.{Data, string, number, unsigned}
-use Rattle.desk_model.specs.Json.{document, list}
-use Rattle.desk_model.specs.{Tokens.base64url, Name.Name, Names.shown_name, Tables.Tables, Order.is_processing, Questions.authorization_on}
-use Rattle.desk_model.specs.{Authorization.is_pending, Legal.is_processing_challenge}
-use Rattle.desk_model.specs.Effect.{swept, swept_authorization, swept_order}
-use Rattle.desk_model.specs.Derived.{authorization_numbered, numbers_of}
-use Rattle.desk_model.specs.declared.rows.{AuthorizationRow.AuthorizationRow, Listed.Listed, OrderRow.OrderRow}
-use Rattle.desk_model.specs.Document.{and_row, rows_of, listed_rows, order_url, is_listed, bytes_of, work_document, work_of, order_work_document}
+use Rattle.std.specs.{List.flat_map}
+use Rattle.serde_json.specs.Data.{string, number}
+use Rattle.desk_model.specs.Document.{rows_of, listed_rows, order_url, is_listed, work_document, work_of, order_work_document}
+use Rattle.desk_model.specs.{Name.Name, Names.shown_name, Tables.Tables, Order.is_processing, Authorization.is_pending, Legal.is_processing_challenge}
+use Rattle.desk_model.specs.{Effect.swept, Effect.swept_authorization, Effect.swept_order, Derived.authorization_numbered, Derived.numbers_of}
+use Rattle.desk_model.specs.{declared.rows.AuthorizationRow.AuthorizationRow, declared.rows.Listed.Listed, declared.rows.OrderRow.OrderRow}
 use Rattle.core_replies.specs.Shown.{answered, listed_name, listed_order, order_work_at, work_at}
 use Rattle.core_replies.proofs.Gathered.{passing-show-one}
-use Rattle.desk_book.proofs.SweptRows.{swept_authorization-status, swept_order-status, swept_authorization_on}
+use Rattle.desk_book.proofs.SweptRows.{swept_order-status, swept_authorization_on}
 
 -- ---- names
-
-swept-name : (m : ℕ) (a : AuthorizationRow) → (swept_authorization m a).name ≡ a.name
-swept-name m a = sym (ap (λ (r : AuthorizationRow). r.name) (swept_authorization-status m a))
-
-swept_row-name : (m : ℕ) (o : Option AuthorizationRow) (moved stays : List AuthorizationRow) → map (λ a. a.name) moved ≡ map (λ a. a.name) stays →
-    map (λ a. a.name) (and_row (option_map (swept_authorization m) o) moved) ≡ map (λ a. a.name) (and_row o stays)
-swept_row-name m None moved stays ih = ih
-swept_row-name m (Some a) moved stays ih =
-    ap (λ n. n ∷ map (λ (r : AuthorizationRow). r.name) moved) (swept-name m a) ∙ ap (λ l. a.name ∷ l) ih
 
 -- the passing of time moves no name
 pub swept-names : (m : ℕ) (T : Tables) (numbers : List ℕ) →
     map (λ a. a.name) (rows_of (swept m T).authorizations numbers) ≡ map (λ a. a.name) (rows_of T.authorizations numbers)
 swept-names m T [] = refl
-swept-names m T (n ∷ ns) =
-    ap (λ o. map (λ (a : AuthorizationRow). a.name) (and_row o (rows_of (swept m T).authorizations ns))) (swept_authorization_on m T n)
-    ∙ swept_row-name m (authorization_on T n) (rows_of (swept m T).authorizations ns) (rows_of T.authorizations ns) (swept-names m T ns)
-
-listed-name : (o : Option AuthorizationRow) (later : List Data) (rows : List AuthorizationRow) → later ≡ map (λ a. string (shown_name a.name)) rows →
-    listed_name o ++ later ≡ map (λ a. string (shown_name a.name)) (and_row o rows)
-listed-name None later rows ih = ih
-listed-name (Some a) later rows ih = ap (λ l. string (shown_name a.name) ∷ l) ih
+swept-names m T (n ∷ ns) = grind (arith, swept_authorization_on, (swept-names m T ns))
 
 -- the names of the authorizations that these places list
 pub listed-names : (rows : List AuthorizationRow) (places : List Listed) →
     flat_map (λ l. listed_name (authorization_numbered l.authorization rows)) places ≡ map (λ a. string (shown_name a.name)) (rows_of rows (numbers_of places))
 listed-names rows [] = refl
-listed-names rows (l ∷ ls) =
-    listed-name (authorization_numbered l.authorization rows) (flat_map (λ x. listed_name (authorization_numbered x.authorization rows)) ls)
-    (rows_of rows (numbers_of ls)) (listed-names rows ls)
+listed-names rows (l ∷ ls) = grind (arith, (listed-names rows ls))
 
 -- ---- lists of rows that were moved
 
@@ -52,13 +31,7 @@ listed-names rows (l ∷ ls) =
 pub map-filter-map : {X Y Z : Type 0} (f : Y → Z) (p : Y → Bool) (move : X → Y) (g : X → Z) → ((x : X) → f (move x) ≡ g x) → (xs : List X) →
     map f (filter p (map move xs)) ≡ map g (filter (λ x. p (move x)) xs)
 map-filter-map f p move g same [] = refl
-map-filter-map {X} f p move g same (x ∷ xs) = by (p (move x)) (map-filter-map f p move g same xs)
-  where
-    by : (b : Bool) → map f (filter p (map move xs)) ≡ map g (filter (λ y. p (move y)) xs) →
-        map f (cond b (move x ∷ filter p (map move xs)) (filter p (map move xs)))
-        ≡ map g (cond b (x ∷ filter (λ y. p (move y)) xs) (filter (λ y. p (move y)) xs))
-    by true ih = ap (λ z. z ∷ map f (filter p (map move xs))) (same x) ∙ ap (λ l. g x ∷ l) ih
-    by false ih = ih
+map-filter-map {X} f p move g same (x ∷ xs) = grind (arith, (map-filter-map f p move g same xs))
 
 flat_map-map : {X Y Z : Type 0} (f : Y → List Z) (move : X → Y) (g : X → List Z) → ((x : X) → f (move x) ≡ g x) → (xs : List X) →
     flat_map f (map move xs) ≡ flat_map g xs
@@ -85,9 +58,7 @@ answered-waiting m a pending =
 
 -- the challenges that wait for the validator
 pub challenges-waiting : (m : ℕ) (T : Tables) → flat_map work_of (swept m T).authorizations ≡ flat_map (work_at m) T.authorizations
-challenges-waiting m T =
-    flat_map-map work_of (swept_authorization m) (work_at m)
-    (λ a. sym (ap work_of (swept_authorization-status m a))) T.authorizations
+challenges-waiting m T = search (rules, flat_map-map)
 
 -- the names of an order that waits for the signing office
 names-waiting : (m : ℕ) (T : Tables) (o : OrderRow) →
@@ -98,12 +69,7 @@ names-waiting m T o =
     ∙ map-map (λ (n : Name). string (shown_name n)) (λ (a : AuthorizationRow). a.name) (listed_rows T o)
 
 order-waiting : (m : ℕ) (T : Tables) (o : OrderRow) → order_work_document (swept m T) (swept_order m T.authorizations o) ≡ order_work_document T o
-order-waiting m T o =
-    sym (ap (order_work_document (swept m T)) (swept_order-status m T.authorizations o))
-    ∙ ap
-    (λ names. document ((codes "csr", string (base64url (bytes_of o.finalized))) ∷ (codes "names", list names)
-    ∷ (codes "order", number (unsigned o.number)) ∷ []))
-    (names-waiting m T o)
+order-waiting m T o = search (rules, names-waiting)
 
 -- the orders that wait for the signing office
 pub orders-waiting : (m : ℕ) (T : Tables) →

@@ -1,22 +1,19 @@
 -- What is written of documents, one part behind the other, and that it is read as they are.
 use Rattle.std.proofs.Common.{◌≡◌, ◌≤◌, ◌<◌, ◌^◌, ◌∙◌, ℕ, suc, max, true, List, [], ◌∷◌, ◌++◌, Option, Some, option_map, option_and_then, refl, sym, ap, subst}
-use Rattle.std.proofs.Common.{append-nil, append_assoc}
-use Rattle.std.specs.List.{flat_map}
+use Rattle.std.proofs.Common.{append-nil, append_assoc, arith, rules}
 use Rattle.std.proofs.lemmas.Grind.{flat_map-append}
+use Rattle.std.specs.List.{flat_map}
 use Rattle.json.specs.Json as json
-use Rattle.json.specs.{Lex.tokens, Print.print}
-use Rattle.json.specs.Token.{Token, begin_array, begin_object, end_array, end_object, key}
+use Rattle.json.specs.{Lex.tokens, Print.print, Token.Token, Token.begin_array, Token.begin_object, Token.end_array, Token.end_object, Token.key}
 use Rattle.json.specs.Tree as tree
 use Rattle.json.proofs.Printed.Trees.{value-json_tokens}
 use Rattle.serde_json.specs.Data.{Data, Items, Members, array, depth, items_depth, item, member, members_depth, no_items, no_members, number, object, put}
 use Rattle.serde_json.specs.Data.{string, unsigned}
 use Rattle.serde_json.specs.Read.{max_depth, of_items, of_json, of_members, read}
-use Rattle.serde_json.specs.View.{items_of}
-use Rattle.serde_json.specs.Written.{compact_text, items_outline, members_outline, outline}
+use Rattle.serde_json.specs.{View.items_of, Written.compact_text, Written.items_outline, Written.members_outline, Written.outline}
 use Rattle.serde_json.proofs.{Numbers.number_of-decimal, Texts.print-outline}
 use Rattle.desk_model.proofs.PlainData.{document_fits}
-use Rattle.desk_model.specs.Json.{document, list, members}
-use Rattle.desk_model.specs.{Kept.EachOf, Plain.is_document}
+use Rattle.desk_model.specs.{Json.document, Json.list, Json.members, Kept.EachOf, Plain.is_document}
 use Rattle.model_laws.proofs.Basics.{each-append}
 use Rattle.core_replies.specs.Shown.{with_members}
 use Rattle.core_replies.specs.Texts.{AreInOrder, HasMembers, HasValues, IsText, ReadsBack, member_tokens, tokens_of}
@@ -25,25 +22,14 @@ use Rattle.core_replies.specs.Texts.{AreInOrder, HasMembers, HasValues, IsText, 
 
 more : {X : Type 0} (f : X → List Token) (xs ys : List X) (a b c : List Token) → b ≡ a ++ flat_map f xs → c ≡ b ++ flat_map f ys
     → c ≡ a ++ flat_map f (xs ++ ys)
-more f xs ys a b c p q =
-    q ∙ ap (λ ts. ts ++ flat_map f ys) p ∙ append_assoc a (flat_map f xs) (flat_map f ys) ∙ ap (λ ts. a ++ ts) (sym (flat_map-append f xs ys))
-
--- nothing is written
-pub none_written : (a : List Token) → HasMembers a a []
-none_written a = record { text = sym (append-nil a); back = tt }
-
-pub nothing_written : (a : List Token) → HasValues a a []
-nothing_written a = record { text = sym (append-nil a); back = tt }
+more f xs ys a b c p q = search (rules, append_assoc, flat_map-append)
 
 -- what was written alone is the text of its document
 pub written_text : (before after : List Token) (d : Data) → before ≡ [] → is_document d ≡ true → HasValues before after (d ∷ []) → IsText after d
 written_text before after d none plain has = record { values = subst (λ b. HasValues b after (d ∷ [])) none has; plain = plain }
 
 pub members_then : {a b c : List Token} {ms ns : List (List ℕ × Data)} → HasMembers a b ms → HasMembers b c ns → HasMembers a c (ms ++ ns)
-members_then {a} {b} {c} {ms} {ns} p q = record {
-  text = more member_tokens ms ns a b c p.text q.text;
-  back = each-append (λ m. ReadsBack m.1) ms ns p.back q.back;
-}
+members_then {a} {b} {c} {ms} {ns} p q = search (rules, more, each-append)
 
 pub values_then : {a b c : List Token} {ds es : List Data} → HasValues a b ds → HasValues b c es → HasValues a c (ds ++ es)
 values_then {a} {b} {c} {ds} {es} p q = record { text = more tokens_of ds es a b c p.text q.text; back = each-append ReadsBack ds es p.back q.back }
@@ -57,11 +43,7 @@ one_value {a} {b} d p back = record { text = p ∙ ap (λ ts. a ++ ts) (sym (app
 -- a name and its value
 pub one_member : {a b c : List Token} (name : List ℕ) (d : Data) → b ≡ a ++ key name ∷ [] → c ≡ b ++ tokens_of d → ReadsBack d
     → HasMembers a c ((name, d) ∷ [])
-one_member {a} {b} {c} name d named p back = record {
-  text = p ∙ ap (λ ts. ts ++ tokens_of d) named ∙ append_assoc a (key name ∷ []) (tokens_of d)
-      ∙ ap (λ ts. a ++ key name ∷ ts) (sym (append-nil (tokens_of d)));
-  back = (back, tt);
-}
+one_member {a} {b} {c} name d named p back = search (rules, append_assoc)
 
 -- a number of 64 bits is read as it is
 pub number_back : (n : ℕ) → n < 2 ^ 64 → ReadsBack (number (unsigned n))
@@ -71,20 +53,15 @@ number_back n low = ap (option_map number) (number_of-decimal n low)
 
 members-tokens : (ms : List (List ℕ × Data)) → tree.members_tokens (members_outline (members ms)) ≡ flat_map member_tokens ms ++ end_object ∷ []
 members-tokens [] = refl
-members-tokens (m ∷ ms) =
-    ap (λ ts. key m.0 ∷ (tokens_of m.1 ++ ts)) (members-tokens ms)
-    ∙ sym (ap (λ ts. key m.0 ∷ ts) (append_assoc (tokens_of m.1) (flat_map member_tokens ms) (end_object ∷ [])))
+members-tokens (m ∷ ms) = grind (arith, append_assoc, (members-tokens ms))
 
 items-tokens : (ds : List Data) → tree.items_tokens (items_outline (items_of ds)) ≡ flat_map tokens_of ds ++ end_array ∷ []
 items-tokens [] = refl
-items-tokens (d ∷ ds) =
-    ap (λ ts. tokens_of d ++ ts) (items-tokens ds) ∙ sym (append_assoc (tokens_of d) (flat_map tokens_of ds) (end_array ∷ []))
+items-tokens (d ∷ ds) = grind (arith, append_assoc, (items-tokens ds))
 
 items-back : (ds : List Data) → EachOf ReadsBack ds → of_items (items_outline (items_of ds)) ≡ Some (items_of ds)
 items-back [] back = refl
-items-back (d ∷ ds) back =
-    ap (option_and_then (λ e. option_map (item e) (of_items (items_outline (items_of ds))))) back.0
-    ∙ ap (option_map (item d)) (items-back ds back.1)
+items-back (d ∷ ds) back = grind (arith, (items-back ds back.1))
 
 -- a list is read as it is, where each of its values is
 pub list_back : (ds : List Data) → EachOf ReadsBack ds → ReadsBack (list ds)
@@ -101,8 +78,7 @@ pub document_back : (ms : List (List ℕ × Data)) → EachOf (λ m. ReadsBack m
 document_back ms back ordered = ap (option_map object) (members-back ms no_members back ∙ ap Some ordered)
 
 between : (a b c d first last middle : List Token) → b ≡ a ++ first → c ≡ b ++ middle → d ≡ c ++ last → d ≡ a ++ (first ++ (middle ++ last))
-between a b c d first last middle p q r =
-    r ∙ ap (λ ts. ts ++ last) (q ∙ ap (λ ts. ts ++ middle) p) ∙ append_assoc (a ++ first) middle last ∙ append_assoc a first (middle ++ last)
+between a b c d first last middle p q r = search (rules, append_assoc)
 
 -- an object with these members is one value
 pub object_value : {a b c d : List Token} (ms : List (List ℕ × Data)) → b ≡ a ++ begin_object ∷ [] → HasMembers b c ms → AreInOrder ms

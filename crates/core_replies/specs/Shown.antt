@@ -2,17 +2,14 @@
 use Rattle.std.specs.Prelude.{codes, ℕ, ◌≤◌, Bool, true, not, ◌||◌, is_some, List, [], ◌∷◌, ◌++◌, decimal, map, Option, Some, None, if◌then◌else◌}
 use Rattle.std.specs.List.{filter}
 use Rattle.serde_json.specs.Data.{Data, Members, boolean, number, put, string, unsigned}
+use Rattle.desk_model.specs.Document.{work_document, account_status_text, authorization_status_text, authorization_url, bytes_of, certificate_url}
+use Rattle.desk_model.specs.Document.{challenge_document, challenge_status_text, challenge_url, error_of, expected, finalize_url, identifier, is_listed}
+use Rattle.desk_model.specs.Document.{kind_text, listed_rows, order_error, order_status_text, order_url, order_work_document, orders_url, shown_challenges, url}
+use Rattle.desk_model.specs.Document.{validated}
 use Rattle.desk_model.specs.{Limits.last_end, Tables.Tables, Authorization.is_pending, Order.is_processing, Legal.is_processing_challenge, Kept.EachOf}
-use Rattle.desk_model.specs.{Derived.numbers_of, Moment.moment_text, Name.Name, Refusals.error_type, Terms.Terms, Document.work_document}
-use Rattle.desk_model.specs.declared.{objects.Report.Report, rows.ChallengeRow.ChallengeRow, rows.AuthorizationRow.AuthorizationRow, rows.OrderRow.OrderRow}
-use Rattle.desk_model.specs.declared.rows.AccountRow.{AccountRow}
-use Rattle.desk_model.specs.Effect.{swept_authorization, swept_order}
-use Rattle.desk_model.specs.Document.{account_status_text, authorization_status_text, authorization_url, bytes_of, certificate_url, challenge_document}
-use Rattle.desk_model.specs.Document.{challenge_status_text, challenge_url, error_of, expected, finalize_url, identifier, is_listed, kind_text, listed_rows}
-use Rattle.desk_model.specs.Document.{order_error, order_status_text, order_url, order_work_document, orders_url, shown_challenges, url, validated}
-use Rattle.desk_model.specs.Json.{list, when}
-use Rattle.desk_model.specs.Names.{shown_name}
-use Rattle.desk_model.specs.Tokens.{base64url, token_text}
+use Rattle.desk_model.specs.{Derived.numbers_of, Moment.moment_text, Name.Name, Refusals.error_type, Terms.Terms, declared.objects.Report.Report}
+use Rattle.desk_model.specs.{Effect.swept_authorization, Effect.swept_order, Json.list, Json.when, Names.shown_name, Tokens.base64url, Tokens.token_text}
+use Rattle.desk_model.specs.declared.rows.{ChallengeRow.ChallengeRow, AuthorizationRow.AuthorizationRow, OrderRow.OrderRow, AccountRow.AccountRow}
 use Rattle.moments.specs.Capped.{capped}
 
 -- ---- moments: one past the last that has a text is shown as the last

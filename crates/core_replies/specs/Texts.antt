@@ -2,8 +2,7 @@
 use Rattle.std.specs.Prelude.{◌≡◌, ℕ, List, [], ◌∷◌, ◌++◌, Some, true}
 use Rattle.std.specs.List.{flat_map}
 use Rattle.json.specs.{Token.Token, Tree.json_tokens}
-use Rattle.serde_json.specs.Data.{Data, no_members}
-use Rattle.serde_json.specs.{Read.of_json, Written.outline}
+use Rattle.serde_json.specs.{Data.Data, Data.no_members, Read.of_json, Written.outline}
 use Rattle.desk_model.specs.{Json.members, Kept.EachOf, Plain.is_document}
 use Rattle.core_replies.specs.Shown.{with_members}
 

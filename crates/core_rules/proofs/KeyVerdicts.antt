@@ -1,22 +1,13 @@
 -- Verdicts on signed requests, by the account of the request's key.
-use Rattle.std.proofs.Common.{◌≡◌, ℕ, List, [], true, false, Option, Some, Ok, sym, ap, subst, ◌∙◌}
-use Rattle.desk_model.specs.{Payload.new_account, Questions.account_with_key, Tables.Tables, Account.is_valid, declared.call.Signed.Signed}
-use Rattle.desk_model.specs.declared.{call.Target.Target, payload.NewAccount.NewAccount, refusal.Refusal.Refusal, rows.AccountRow.AccountRow}
-use Rattle.desk_model.specs.declared.{rows.Counters.Counters, verdict.Verdict.Verdict, verdict.Verdict.TheVariants.Refused as refused}
-use Rattle.desk_model.specs.Rules.{holder_verdict, key_verdict, open_account, signed_verdict, target_verdict, unknown_key_verdict}
-use Rattle.desk_model.specs.Verdict.{check, given}
+use Rattle.std.proofs.Common.{◌≡◌, ℕ, List, [], true, false, Some, sym, ap, subst, ◌∙◌}
+use Rattle.desk_model.specs.Rules.{holder_verdict, open_account, target_verdict, unknown_key_verdict}
+use Rattle.desk_model.specs.{Payload.new_account, Tables.Tables, Account.is_valid, declared.call.Target.Target, declared.payload.NewAccount.NewAccount}
+use Rattle.desk_model.specs.{declared.refusal.Refusal.Refusal, declared.rows.AccountRow.AccountRow, declared.rows.Counters.Counters}
+use Rattle.desk_model.specs.{declared.verdict.Verdict.Verdict, declared.verdict.Verdict.TheVariants.Refused as refused, Verdict.check, Verdict.given}
 use Rattle.desk_model.specs.declared.call.Target.TheVariants as to
 use Rattle.desk_model.specs.declared.refusal.Refusal.TheVariants as refusal
 use Rattle.core_rules.specs.Needs.{NumbersLeft, BytesLeft}
 pub use Rattle.core_rules.specs.Needs.{IsJudged}
-
--- a request with an accepted key
-pub signed-by : (T : Tables) (r : List ℕ) (s : Signed) (key p : List ℕ) (o : Option AccountRow) → s.key ≡ Ok key → p ≡ s.payload → account_with_key T key ≡ o →
-    signed_verdict T r s ≡ key_verdict T r key p s.target o
-signed-by T r s key p o is payload account =
-    ap (λ k. signed_verdict T r (record s { key = k })) is
-    ∙ ap (λ l. key_verdict T r key l s.target (account_with_key T key)) (sym payload)
-    ∙ ap (key_verdict T r key p s.target) account
 
 -- a newAccount request of a key without an account opens one
 pub unknown-opens : (key p : List ℕ) (t : Target) (asked : NewAccount) → t ≡ to.NewAccount → new_account p ≡ Some asked →

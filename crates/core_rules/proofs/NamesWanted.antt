@@ -1,42 +1,19 @@
 -- How many authorizations and tokens a new order asks for.
-use Rattle.std.proofs.Common.{◌≡◌, ℕ, zero, suc, ◌+◌, ◌*◌, ◌<◌, ◌≤◌, List, [], ◌∷◌, ◌++◌, length, take, drop, get_or, map, Bool, true, false, cond}
-use Rattle.std.proofs.Common.{Option, Some, None, refl, arith, sym, ap, ◌∙◌}
-use Rattle.std.specs.Prelude.{option_map, sum_by}
-use Rattle.std.proofs.lemmas.List.{at_drop_more, drop-drop}
-use Rattle.std.proofs.lemmas.List.Sums.{sum_by-cons}
-use Rattle.desk_model.specs.{Authorization.kinds_of, Name.Name, Questions.serving_on, Tables.Tables}
-use Rattle.desk_model.specs.declared.status.Kind.TheVariants.{Http01 as http_01, Dns01 as dns_01}
-use Rattle.desk_model.specs.declared.{rows.AuthorizationRow.AuthorizationRow, entry.Wanted.TheVariants.New as new}
-use Rattle.desk_model.specs.declared.entry.Wanted.TheVariants.{Reused as reused}
-use Rattle.desk_model.specs.Rules.{left_by, pieces, wanted, wanted_by}
-use Rattle.desk_model.specs.Run.{count_new, count_tokens}
+use Rattle.std.proofs.Common.{◌≡◌, ℕ, zero, suc, ◌+◌, ◌*◌, ◌<◌, ◌≤◌, List, [], ◌∷◌, ◌++◌, length, take, drop, get_or, map, Option, refl, arith, sym, ap, ◌∙◌}
+use Rattle.std.proofs.Common.{rules}
+use Rattle.std.proofs.{lemmas.List.at_drop_more, lemmas.List.drop-drop, lemmas.List.Sums.sum_by-cons}
+use Rattle.std.specs.Prelude.{sum_by}
+use Rattle.desk_model.specs.{Name.Name, Tables.Tables, Rules.pieces, Rules.wanted, Run.count_new, Run.count_tokens}
 use Rattle.core_rules.specs.Making.{drawn_by, drawn_for, gets, leaves, made_by, made_for, served_name, wanted_for}
 use Rattle.core_rules.specs.declared.new_orders.ServedName.{ServedName}
-use Rattle.model_laws.proofs.Drawn.{length-pieces}
-
--- a name has two challenges at most
-kinds-le : (n : Name) → length (kinds_of n) ≤ 2
-kinds-le n = by n.wildcard
-  where
-    by : (b : Bool) → length (cond b (dns_01 ∷ []) (http_01 ∷ dns_01 ∷ [])) ≤ 2
-    by true = omega arith
-    by false = omega arith
 
 -- so has what is drawn for it
 pub drawn-le : (s : ServedName) → drawn_for s ≤ 2
-drawn-le s = by s.authorization
-  where
-    by : (o : Option ℕ) → drawn_by o s.name ≤ 2
-    by None = kinds-le s.name
-    by (Some n) = omega arith
+drawn-le s = search rules
 
 -- one authorization is made for it at most
 pub made-le : (s : ServedName) → made_for s ≤ 2
-made-le s = by s.authorization
-  where
-    by : (o : Option ℕ) → made_by o ≤ 2
-    by None = omega arith
-    by (Some n) = omega arith
+made-le s = search rules
 
 -- what is counted for each name, at most twice, is at most twice their number
 count-le : (w : ServedName → ℕ) (ss : List ServedName) → ((s : ServedName) → w s ≤ 2) → sum_by w ss ≤ 2 * length ss
@@ -60,14 +37,7 @@ count-fits w ss i s count small more is counted = omega (arith, count-next w ss 
 pub wanted-served : (T : Tables) (account : ℕ) (ns : List Name) (random : List ℕ) →
     wanted_for (map (served_name T account) ns) random ≡ wanted T account ns random
 wanted-served T account [] random = refl
-wanted-served T account (n ∷ ns) random = by (serving_on T account n) (wanted-served T account ns)
-  where
-    by : (o : Option AuthorizationRow) → ((rest : List ℕ) → wanted_for (map (served_name T account) ns) rest ≡ wanted T account ns rest) →
-        gets (option_map (λ r. r.number) o) n random
-        ∷ wanted_for (map (served_name T account) ns) (leaves (option_map (λ r. r.number) o) n random)
-        ≡ wanted_by o n random ∷ wanted T account ns (left_by o n random)
-    by None others = ap (λ ws. new n (pieces (length (kinds_of n)) random) ∷ ws) (others (drop (16 * length (kinds_of n)) random))
-    by (Some row) others = ap (λ ws. reused n row.number ∷ ws) (others random)
+wanted-served T account (n ∷ ns) random = grind (arith, (wanted-served T account ns))
 
 -- a token for each challenge that is made
 tokens-wanted : (ss : List ServedName) (random : List ℕ) → count_tokens (wanted_for ss random) ≡ sum_by drawn_for ss
@@ -76,14 +46,11 @@ tokens-wanted (s ∷ ss) random = by s.authorization (λ rest. tokens-wanted ss 
   where
     by : (o : Option ℕ) → ((rest : List ℕ) → count_tokens (wanted_for ss rest) ≡ sum_by drawn_for ss) →
         count_tokens (gets o s.name random ∷ wanted_for ss (leaves o s.name random)) ≡ drawn_by o s.name + sum_by drawn_for ss
-    by None others =
-        λ i. length-pieces (length (kinds_of s.name)) random i + others (drop (16 * length (kinds_of s.name)) random) i
-    by (Some n) others = omega (arith, others random)
+    by o h = grind arith
 
 pub count_tokens-wanted : (T : Tables) (account : ℕ) (ns : List Name) (random : List ℕ) →
     count_tokens (wanted T account ns random) ≡ sum_by drawn_for (map (served_name T account) ns)
-count_tokens-wanted T account ns random =
-    ap count_tokens (sym (wanted-served T account ns random)) ∙ tokens-wanted (map (served_name T account) ns) random
+count_tokens-wanted T account ns random = search (rules, wanted-served, tokens-wanted)
 
 -- an authorization for each name that none serves
 new-wanted : (ss : List ServedName) (random : List ℕ) → count_new (wanted_for ss random) ≡ sum_by made_for ss
@@ -92,13 +59,11 @@ new-wanted (s ∷ ss) random = by s.authorization (λ rest. new-wanted ss rest) 
   where
     by : (o : Option ℕ) → ((rest : List ℕ) → count_new (wanted_for ss rest) ≡ sum_by made_for ss) →
         count_new (gets o s.name random ∷ wanted_for ss (leaves o s.name random)) ≡ made_by o + sum_by made_for ss
-    by None others = ap (λ k. 1 + k) (others (drop (16 * length (kinds_of s.name)) random))
-    by (Some n) others = omega (arith, others random)
+    by o h = grind arith
 
 pub count_new-wanted : (T : Tables) (account : ℕ) (ns : List Name) (random : List ℕ) →
     count_new (wanted T account ns random) ≡ sum_by made_for (map (served_name T account) ns)
-count_new-wanted T account ns random =
-    ap count_new (sym (wanted-served T account ns random)) ∙ new-wanted (map (served_name T account) ns) random
+count_new-wanted T account ns random = search (rules, wanted-served, new-wanted)
 
 -- the first pieces, and one more
 pub pieces-last : (k : ℕ) (random : List ℕ) → pieces (suc k) random ≡ pieces k random ++ take 16 (drop (16 * k) random) ∷ []

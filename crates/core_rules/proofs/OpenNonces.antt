@@ -1,9 +1,8 @@
 -- The nonce of a serial, by whether it lasts and which random bytes it has.
-use Rattle.std.proofs.Common.{◌≡◌, ℕ, Bool, true, false, cond, ◌&&◌, Option, Some, None, refl, sym, ap, ◌∙◌}
+use Rattle.std.proofs.Common.{◌≡◌, ℕ, cond, ◌&&◌, Option, Some, None, sym, ap, ◌∙◌, arith}
 use Rattle.std.specs.Prelude.{bytes_eq}
-use Rattle.desk_model.specs.Effect.{swept, lasts}
-use Rattle.desk_model.specs.{Questions.nonce_on, Tables.Tables, Tokens.NonceText, declared.objects.Nonce.Nonce}
-use Rattle.desk_model.specs.Rules.{if_spelled, open_nonce_in}
+use Rattle.desk_model.specs.{Effect.swept, Effect.lasts, Questions.nonce_on, Tables.Tables, Tokens.NonceText, declared.objects.Nonce.Nonce, Rules.if_spelled}
+use Rattle.desk_model.specs.{Rules.open_nonce_in}
 use Rattle.model_laws.specs.Ordered.{IsOrdered}
 use Rattle.core_rules.specs.Lists.{only}
 use Rattle.core_rules.proofs.Looking.{find-only}
@@ -19,11 +18,7 @@ found T m ordered t o is =
 -- a nonce that is there
 pub opens : (T : Tables) (m : ℕ) → IsOrdered T → (t : NonceText) (n : Nonce) → Some n ≡ nonce_on T t.serial →
     open_nonce_in (swept m T) (Some t) ≡ cond (lasts T.meta.policy m n && bytes_eq n.random t.random) (Some t.serial) None
-opens T m ordered t n is = found T m ordered t (Some n) is ∙ by (lasts T.meta.policy m n)
-  where
-    by : (b : Bool) → if_spelled t (cond b (Some n) None) ≡ cond (b && bytes_eq n.random t.random) (Some t.serial) None
-    by true = refl
-    by false = refl
+opens T m ordered t n is = found T m ordered t (Some n) is ∙ grind arith
 
 -- and one that is not
 pub absent : (T : Tables) (m : ℕ) → IsOrdered T → (t : NonceText) → None ≡ nonce_on T t.serial → open_nonce_in (swept m T) (Some t) ≡ None

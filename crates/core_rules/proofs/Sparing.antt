@@ -1,5 +1,5 @@
 -- Verdicts that need no numbers and no random bytes.
-use Rattle.std.proofs.Common.{◌≡◌, ℕ, List, Bool, true, false, Option, Some, None, Result, Ok, Err, MatchResult, drop, sym, ap, subst, ◌∙◌}
+use Rattle.std.proofs.Common.{◌≡◌, ℕ, List, Bool, true, false, Option, Some, None, Result, Ok, Err, MatchResult, drop, sym, ap, subst, ◌∙◌, arith, rules}
 use Rattle.desk_model.specs.declared.{refusal.Refusal.Refusal, rows.AuthorizationRow.AuthorizationRow, rows.OrderRow.OrderRow, call.Signed.Signed, call.Target.Target}
 use Rattle.desk_model.specs.declared.{payload.AccountChange.AccountChange, payload.AuthorizationChange.AuthorizationChange, payload.KeyChange.KeyChange}
 use Rattle.desk_model.specs.declared.{rows.AccountRow.AccountRow, payload.ChallengeChange.ChallengeChange, rows.Counters.Counters, verdict.Verdict.Verdict}
@@ -13,8 +13,7 @@ use Rattle.identifiers.specs.ReadOnce.{target_key_change}
 use Rattle.desk_model.specs.declared.payload.AccountChange.TheVariants as account
 use Rattle.desk_model.specs.declared.payload.AuthorizationChange.TheVariants as authz
 use Rattle.desk_model.specs.declared.payload.ChallengeChange.TheVariants as chall
-use Rattle.core_rules.specs.Needs.{NumbersLeft, BytesLeft, IsNeedFault}
-use Rattle.core_rules.specs.declared.fault.CoreFault.{CoreFault}
+use Rattle.core_rules.specs.{Needs.NumbersLeft, Needs.BytesLeft, declared.fault.CoreFault.CoreFault}
 use Rattle.core_rules.specs.declared.fault.CoreFault.TheVariants as fault
 use Rattle.core_rules.proofs.KeyVerdicts.{IsJudged}
 
@@ -63,8 +62,7 @@ certificate-spares : (n : ℕ) (o : OrderRow) → Spares (certificate_verdict n 
 certificate-spares n o = given-spares _ _ _ (λ k C random. (tt, tt))
 
 rekey-spares : (n : ℕ) (key : List ℕ) (o : Option AccountRow) → Spares (rekey_verdict n key o)
-rekey-spares n key None = λ C random. (tt, tt)
-rekey-spares n key (Some holder) = λ C random. (tt, tt)
+rekey-spares n key o = search rules
 
 key_change-spares : (T : Tables) (n : ℕ) (c : KeyChange) → Spares (key_change_verdict T n c)
 key_change-spares T n c = check-spares _ _ _ (given-spares _ _ _ (λ key. rekey-spares n key (account_with_key T key)))
@@ -102,8 +100,7 @@ pub target-made : (T : Tables) (random : List ℕ) (n : ℕ) (p : List ℕ) (tar
     (r : Result Verdict CoreFault) → target ≡ reading → MatchResult r (λ v. v ≡ target_verdict T (drop 16 random) n p reading) (λ e. e ≡ fault.Memory) →
     IsJudged T.meta.counters random r (target_verdict T (drop 16 random) n p target)
 target-made T random n p target reading spares (Ok v) is e = target-spared T random n p target reading spares v is e
-target-made T random n p target reading spares (Err f) is e =
-    subst (IsNeedFault T.meta.counters random (target_verdict T (drop 16 random) n p target)) (sym e) tt
+target-made T random n p target reading spares (Err f) is e = grind arith
 
 -- a request that is another's copy is sent to the other's target
 pub sent : {asked signed : Signed} {reading : Target} → asked ≡ signed → asked.target ≡ reading → signed.target ≡ reading
@@ -114,6 +111,4 @@ pub asked-change : (T : Tables) (r : List ℕ) (n : ℕ) (p : List ℕ) (target 
     target ≡ to.KeyChange → asked ≡ target_key_change target p →
     MatchResult result (λ v. v ≡ given asked refusal.Malformed (key_change_verdict T n)) (λ e. e ≡ fault.Memory) →
     MatchResult result (λ v. v ≡ target_verdict T r n p to.KeyChange) (λ e. e ≡ fault.Memory)
-asked-change T r n p target asked result is read =
-    subst (λ o. MatchResult result (λ v. v ≡ given o refusal.Malformed (key_change_verdict T n)) (λ e. e ≡ fault.Memory))
-    (read ∙ ap (λ t. target_key_change t p) is)
+asked-change T r n p target asked result is read = search rules

@@ -1,10 +1,9 @@
 -- What a verdict needs: an account, numbers that can be given, and random bytes for tokens.
 use Rattle.std.specs.Prelude.{ℕ, ◌+◌, ◌*◌, ◌≡◌, ◌<◌, ◌≤◌, ◌⊎◌, List, MatchResult, Result, length}
-use Rattle.desk_model.specs.{Authorization.kinds_of, Limits.last_number, Kept.EachOf, Decide.entries_of}
-use Rattle.desk_model.specs.Run.{count_new, count_tokens, count_pieces}
-use Rattle.desk_model.specs.declared.{rows.Counters.Counters, verdict.Verdict.Verdict, entry.Wanted.Wanted}
-use Rattle.desk_model.specs.declared.verdict.Verdict.TheVariants.{Opens as opens, Orders as orders}
-use Rattle.desk_model.specs.declared.entry.Wanted.TheVariants.{New as new, Reused as reused}
+use Rattle.desk_model.specs.{Authorization.kinds_of, Limits.last_number, Kept.EachOf, Decide.entries_of, Run.count_new, Run.count_tokens, Run.count_pieces}
+use Rattle.desk_model.specs.{declared.rows.Counters.Counters, declared.verdict.Verdict.Verdict, declared.entry.Wanted.Wanted}
+use Rattle.desk_model.specs.{declared.verdict.Verdict.TheVariants.Opens as opens, declared.verdict.Verdict.TheVariants.Orders as orders}
+use Rattle.desk_model.specs.{declared.entry.Wanted.TheVariants.New as new, declared.entry.Wanted.TheVariants.Reused as reused}
 use Rattle.core_rules.specs.declared.fault.CoreFault.{CoreFault}
 use Rattle.core_rules.specs.declared.fault.CoreFault.TheVariants as fault
 

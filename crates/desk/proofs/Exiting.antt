@@ -1,13 +1,10 @@
 -- The exits of a call over an open store.
-use Rattle.std.proofs.Common.{◌≡◌, ℕ, ◌<◌, ◌*◌, List, [], ◌∷◌, Option, Some, None, refl, sym, ap, subst, cond, not, Result, Ok, Err, inl, inr, arith, true, false}
-use Rattle.std.proofs.lemmas.Bool.{eqb-true, lt-ltb}
-use Rattle.std.specs.Prelude.{nat_eq, nat_lt, length, ◌↔◌, IfErr, IsErrAnd}
-use Rattle.desk_model.specs.{Entry.History, Change.applied, Limits.last_moment}
-use Rattle.desk_model.specs.{Decide.after, Decide.decide, Legal.Legal, Legal.numbers_fit, Run.IsFormedCall, Run.count_pieces, Run.fault}
-use Rattle.desk_model.specs.Tables.{Tables, picture}
-use Rattle.desk_model.specs.declared.{call.Call.Call, reply.Reply.Reply, rows.Change.Change}
+use Rattle.std.proofs.Common.{◌≡◌, ℕ, ◌<◌, List, [], ◌∷◌, Option, Some, refl, sym, subst, Result, Ok, Err, inl, inr, arith, true, false, rules}
+use Rattle.std.proofs.{lemmas.Bool.eqb-true}
+use Rattle.std.specs.Prelude.{nat_eq, length, ◌↔◌, IfErr, IsErrAnd}
+use Rattle.desk_model.specs.{Entry.History, Change.applied, Limits.last_moment, Decide.after, Legal.Legal, Run.IsFormedCall, Run.fault, Tables.Tables}
+use Rattle.desk_model.specs.{Tables.picture, declared.call.Call.Call, declared.reply.Reply.Reply, declared.rows.Change.Change}
 use Rattle.model_lives.specs.IsEnough.{IsEnoughFor}
-use Rattle.store_book.specs.IsBook.{IsStoredBook}
 use Rattle.store_laws.proofs.FlatTexts.{picture_is_stored_book}
 use Rattle.desk_core.specs.Decided.{IsDecision, IsFaultOf}
 use Rattle.core_rules.specs.declared.fault.CoreFault.{CoreFault}
@@ -15,23 +12,19 @@ use Rattle.core_rules.specs.declared.fault.CoreFault.TheVariants as core
 use Rattle.identifiers.specs.declared.parsed.CallFault.{CallFault}
 use Rattle.identifiers.specs.declared.parsed.CallFault.TheVariants as callfault
 use Rattle.store_api.proofs.Readings.{unchanged_both, unchanged_here, unchanged_read}
-use Rattle.store_api.specs.Sight.{Sight, Keeps, Unchanged}
 use Rattle.store_api.specs.Storing.{Causes, Fit, IsCutFrom, Loads, Saving, SavesFrom}
-use Rattle.store_api.specs.declared.fault.StorageFault.{StorageFault}
+use Rattle.store_api.specs.{Sight.Sight, Sight.Keeps, Sight.Unchanged, declared.fault.StorageFault.StorageFault}
 use Rattle.store_api.specs.declared.fault.StorageFault.TheVariants as storagefault
 use Rattle.desk.proofs.Running.{declines}
-use Rattle.desk.specs.{Causes.IsCaused, declared.fault.DeskFault.DeskFault}
-use Rattle.desk.specs.Faults.{call_fault, closes, core_fault, storage_fault}
 use Rattle.desk.specs.Answers.{Answers, ExitsBy, IsAnswered, IsBroken, is_closed_after}
+use Rattle.desk.specs.{Causes.IsCaused, declared.fault.DeskFault.DeskFault, Faults.call_fault, Faults.closes, Faults.core_fault, Faults.storage_fault}
 use Rattle.desk.specs.declared.fault.DeskFault.TheVariants as deskfault
 
 -- ---- faults
 
 -- it is no late moment
 storage_in_time : (cause : StorageFault) → deskfault.Moment ≡ storage_fault cause → ⊥
-storage_in_time storagefault.Memory is = cc is
-storage_in_time storagefault.Device is = cc is
-storage_in_time storagefault.Reopen is = cc is
+storage_in_time cause h = search rules
 
 -- ---- results
 
@@ -46,19 +39,10 @@ storage_result_in_time cause result is late = storage_in_time cause (subst (λ r
 
 -- nor is that of a decision
 core_in_time : (e : CoreFault) → deskfault.Moment ≡ core_fault e → ⊥
-core_in_time core.Memory is = cc is
-core_in_time core.ShortRandom is = cc is
-core_in_time core.Full is = cc is
+core_in_time e h = search rules
 
 pub core_result_in_time : (e : CoreFault) (result : Result Reply DeskFault) → Faults result (core_fault e) → result ≡ Err deskfault.Moment → ⊥
 core_result_in_time e result is late = core_in_time e (subst (λ r. Faults r (core_fault e)) late is)
-
--- where a call was not read, it is a late moment exactly where that is why
-pub unread_late : {A : Type 0} (e : CallFault) (result : Result Reply DeskFault) (at : ℕ) → Faults result (call_fault e) →
-    (◌≡◌ {A = Result A CallFault} (Err e) (Err callfault.Moment) ↔ (last_moment < at)) → (result ≡ Err deskfault.Moment) ↔ (last_moment < at)
-unread_late e (Ok reply) at is late = absurd is
-unread_late callfault.Memory (Err why) at is late = (λ so. cc (is, so), λ past. let so = late.1 past in cc so)
-unread_late callfault.Moment (Err why) at is late = (λ so. late.0 refl, λ past. ap (λ w. Err w) is)
 
 -- where it was read, it is none
 pub read_late : {A : Type 0} (read : A) (result : Result Reply DeskFault) (at : ℕ) → (result ≡ Err deskfault.Moment → ⊥) →
@@ -72,16 +56,11 @@ read_in_time read at late past = let so = late.1 past in cc so
 
 -- a desk stays open where a call was not read
 pub unread_open : (e : CallFault) (result : Result Reply DeskFault) → Faults result (call_fault e) → false ≡ is_closed_after result
-unread_open e (Ok reply) is = absurd is
-unread_open callfault.Memory (Err why) is = ap closes (sym is)
-unread_open callfault.Moment (Err why) is = ap closes (sym is)
+unread_open e result h = search rules
 
 -- a moment above the last is a fault of the call
 late_fault : (F : History) (call : Call) → last_moment < call.at → fault F call ≡ Some 24
-late_fault F call late =
-    ap (λ b. cond b (Some 24) (cond (not (numbers_fit (after F call))) (Some 26)
-    (cond (nat_lt (length call.random) (16 * count_pieces (decide F call).entries)) (Some 25) None)))
-    (lt-ltb last_moment call.at late)
+late_fault F call late = search rules
 
 -- a call of the store that failed
 abbrev pub failed : (R : Type 0) → StorageFault → Result R StorageFault
@@ -94,11 +73,7 @@ nothing (c ∷ changes) is = let e : length (c ∷ changes) ≡ 0 = eqb-true (le
 
 -- the changes of a decision fit the picture that it was made on
 fits : (F : History) (call : Call) (changes : List Change) (reply : Reply) → IsDecision F call changes reply → Fit (picture F) changes
-fits F call changes reply d =
-    record {
-      kept = d.kept;
-      book = subst IsStoredBook (sym d.makes) (picture_is_stored_book (after F call) d.stays_legal);
-    }
+fits F call changes reply d = grind (arith, (picture_is_stored_book (after F call) d.stays_legal))
 
 module _ {S C : Type 0} (v : Sight S C) where
   -- ---- stores that stand

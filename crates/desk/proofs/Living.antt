@@ -5,12 +5,11 @@ use Rattle.desk_model.specs.Life.{Event, Replied, Faulted, Stopped, Reopened, Is
 use Rattle.model_lives.proofs.{Ended.ended_stays, Nonces.nonces_serve_once}
 use Rattle.model_lives.proofs.Extends.{acknowledged_stays, histories_are_legal, histories_are_of_calls, life_before, replies_are_decided}
 use Rattle.store_api.specs.Sight.{Sight, Keeps, Opens}
-use Rattle.desk.specs.Answers.{Exits, IsEither}
-use Rattle.desk.proofs.Policies.{policy_stays}
 use Rattle.desk.specs.Seen.{Place, runs, rests, Seen, seen_reply, seen_fault, seen_stop, seen_end, seen_open, seen_failure, place_after, told_by, replied}
 use Rattle.desk.specs.Seen.{IsExit, IsExitInPlace, IsExitOfStop, MaySee, MaySeeOn, MaySeeOff, IsSeen, IsAt, RunsIn, SeenIsLived, Follows, AreKeptOf}
 use Rattle.desk.specs.Seen.{SeenIsOfCalls, RepliesAreKept, NonceServesOnce, NoncesSeenOnce, EndedSeenStays}
-use Rattle.desk.specs.declared.fault.DeskFault.{DeskFault}
+use Rattle.desk.specs.{Answers.Exits, Answers.IsEither, declared.fault.DeskFault.DeskFault}
+use Rattle.desk.proofs.Policies.{policy_stays}
 use Rattle.desk.specs.declared.fault.DeskFault.TheVariants as deskfault
 
 module _ {S C : Type 0} (v : Sight S C) where

@@ -1,15 +1,12 @@
 -- A look does to a desk no more than a call that is declined may do: nothing changes.
 use Rattle.std.proofs.Common.{◌≡◌, Bool, true, false, Option, List, ℕ, Result, Ok, Err, refl, inl, inr}
-use Rattle.desk_model.specs.declared.{call.Call.Call}
+use Rattle.desk_model.specs.{declared.call.Call.Call, Tables.picture}
 use Rattle.desk_model.specs.declared.call.OfficeAsk.TheVariants as asks
-use Rattle.desk_model.specs.{Tables.picture}
 use Rattle.store_api.specs.Sight.{Sight, Unchanged}
 use Rattle.store_api.specs.declared.fault.StorageFault.TheVariants as storagefault
-use Rattle.desk.specs.{Answers.Answers, Office.office_call, State.DeskState, declared.fault.DeskFault.DeskFault}
-use Rattle.desk.specs.Looking.{Looks, LooksAt, LooksOpen, Shown}
-use Rattle.desk.specs.Meets.{ActsOnce, AnswersOpen}
+use Rattle.desk.specs.{Answers.Answers, Office.office_call, State.DeskState, declared.fault.DeskFault.DeskFault, Looking.Looks, Looking.LooksAt}
+use Rattle.desk.specs.{Looking.LooksOpen, Looking.Shown, Meets.ActsOnce, Meets.AnswersOpen, declared.looking.LookFault.LookFault}
 use Rattle.desk.specs.declared.fault.DeskFault.TheVariants as deskfault
-use Rattle.desk.specs.declared.looking.LookFault.{LookFault}
 use Rattle.desk.specs.declared.looking.LookFault.TheVariants as lookfault
 
 -- a call that records nothing

@@ -1,19 +1,12 @@
 -- No call changes the policy.
-use Rattle.std.proofs.Common.{◌≡◌, List, [], ◌∷◌, ℕ, true, false, refl, ◌∙◌}
-use Rattle.desk_model.specs.{Entry.History, Decide.decide, Life.made_by}
-use Rattle.desk_model.specs.History.{moment_of, record_all, terms, terms_after}
-use Rattle.desk_model.specs.Legal.{BeginsMade, EachFollows, Legal, is_empty, may_follow}
-use Rattle.desk_model.specs.declared.{call.Call.Call, entry.Entry.Entry, entry.Entry.TheVariants.Made as made}
+use Rattle.std.proofs.Common.{◌≡◌, List, [], ◌∷◌, ℕ, true, false, refl, ◌∙◌, rules}
+use Rattle.desk_model.specs.{History.moment_of, History.record_all, History.terms, History.terms_after, Legal.BeginsMade, Legal.EachFollows, Legal.Legal}
+use Rattle.desk_model.specs.{Legal.is_empty, Legal.may_follow, Entry.History, Decide.decide, Life.made_by, declared.call.Call.Call, declared.entry.Entry.Entry}
 use Rattle.model_laws.proofs.Step.{follows_before}
 
 -- an entry that may follow others leaves the terms
 same_terms : (F : History) (e : Entry) (m : ℕ) → is_empty F ≡ false → may_follow F e m ≡ true → terms_after e (terms F) ≡ terms F
-same_terms [] e m begun may = cc
-same_terms (f ∷ F) e m begun may = by e may
-  where
-    by : (entry : Entry) → may_follow (f ∷ F) entry m ≡ true → terms_after entry (terms (f ∷ F)) ≡ terms (f ∷ F)
-    by (made t) may = cc
-    by _ may = refl
+same_terms F e m h k = search rules
 
 -- entries that may follow others leave the terms
 terms_stay : (m : ℕ) (es : List Entry) (F : History) → is_empty F ≡ false → EachFollows (record_all m es F) → terms (record_all m es F) ≡ terms F
@@ -43,8 +36,7 @@ calls_leave start (c ∷ calls) begun h =
 
 -- a history that begins is not empty
 begins_begun : (F : History) → BeginsMade F → is_empty F ≡ false
-begins_begun [] begins = absurd begins
-begins_begun (e ∷ F) begins = refl
+begins_begun F h = search rules
 
 -- the policy is the one that the desk was made with
 pub policy_stays : (start : History) (calls : List Call) → Legal start → Legal (made_by start calls) → terms (made_by start calls) ≡ terms start

@@ -1,17 +1,13 @@
 -- Calls that are answered one after the other.
-use Rattle.std.proofs.Common.{◌≡◌, ℕ, ◌+◌, ◌<◌, ◌≤◌, List, [], ◌∷◌, ◌++◌, length, take, drop, get_or, subst, refl, sym, ◌∙◌, ap, add-one}
-use Rattle.std.proofs.Common.{inl, inr, None, Some, Option, Result, Ok, Err}
+use Rattle.std.proofs.Common.{◌≡◌, ℕ, ◌+◌, ◌<◌, ◌≤◌, List, [], ◌∷◌, ◌++◌, length, take, drop, get_or, subst, refl, sym, ◌∙◌, ap, add-one, inr, None, Some}
+use Rattle.std.proofs.Common.{Option, Result, Ok, Err, arith, rules}
+use Rattle.std.proofs.{Math.Seq.drop-cons, Math.Seq.take-suc, lemmas.List.drop_all}
 use Rattle.std.specs.Prelude.{◌↔◌}
-use Rattle.std.proofs.Math.Seq.{drop-cons, take-suc}
-use Rattle.std.proofs.lemmas.List.{drop_all}
-use Rattle.desk_model.specs.{Entry.History, Legal.Legal, Limits.last_moment, Tables.picture, declared.call.Call.Call, declared.reply.Reply.Reply}
-use Rattle.desk_model.specs.Decide.{decide, after}
-use Rattle.desk_model.specs.Run.{IsFormedCall, fault, run, and_reply}
-use Rattle.store_api.specs.Sight.{Sight, Keeps}
-use Rattle.store_api.specs.Storing.{Causes}
-use Rattle.desk.specs.Answers.{Answers, ExitsBy}
-use Rattle.desk.specs.{Causes.IsCaused, declared.fault.DeskFault.DeskFault}
+use Rattle.desk_model.specs.{Entry.History, Legal.Legal, Limits.last_moment, Tables.picture, declared.call.Call.Call, declared.reply.Reply.Reply, Decide.decide}
+use Rattle.desk_model.specs.{Decide.after, Run.IsFormedCall, Run.fault, Run.run, Run.and_reply}
+use Rattle.store_api.specs.{Sight.Sight, Sight.Keeps, Storing.Causes}
 use Rattle.desk.specs.Runs.{AnswersAll, EndsBy, EndsCaused, RunsAs, ExitsRun, IsOfModel, IsRun, Runs, TellsLate}
+use Rattle.desk.specs.{Answers.Answers, Answers.ExitsBy, Causes.IsCaused, declared.fault.DeskFault.DeskFault}
 use Rattle.desk.specs.declared.fault.DeskFault.TheVariants as deskfault
 
 -- the first items and one more
@@ -32,33 +28,19 @@ ran_out F call calls n some = rw some refl
 
 -- ---- calls that are too late
 
--- a result has one fault
-same_error : (result : Result Reply DeskFault) (a b : DeskFault) → result ≡ Err a → result ≡ Err b → a ≡ b
-same_error result a b one other = cc
-
 -- the next call ended the run as it was answered
 pub tells_late : (call : Call) (rest : List Call) (why : DeskFault) (result : Result Reply DeskFault) → result ≡ Err why
     → ((result ≡ Err deskfault.Moment) ↔ (last_moment < call.at)) → TellsLate (call ∷ rest) why
-tells_late call rest why result is told = record {
-  late = λ moment. told.0 (is ∙ ap (λ f. Err f) moment);
-  told = λ past. inl (same_error result why deskfault.Moment is (told.1 past));
-}
+tells_late call rest why result is told = grind arith
 
 -- memory was refused before it
 pub tells_memory : (rest : List Call) → TellsLate rest deskfault.Memory
 tells_memory rest = record { late = λ is. absurd (let e = is in cc); told = λ past. inr refl }
 
--- a list of calls that begins with it
-late_cons : (calls rest : List Call) (first call : Call) (why : DeskFault) → calls ≡ first ∷ rest → call ≡ first
-    → ((more : List Call) → TellsLate (call ∷ more) why) → TellsLate calls why
-late_cons calls rest first call why are is tells =
-    subst (λ l. TellsLate l why) (sym are) (subst (λ c. TellsLate (c ∷ rest) why) is (tells rest))
-
 -- as the next call of all
 pub late_at : (calls : List Call) (n i : ℕ) (call : Call) (why : DeskFault) → n ≡ i → i < length calls → call ≡ get_or calls i call
     → ((rest : List Call) → TellsLate (call ∷ rest) why) → TellsLate (drop n calls) why
-late_at calls n i call why counted lt is tells =
-    subst (λ k. TellsLate (drop k calls) why) (sym counted) (late_cons (drop i calls) _ _ call why (drop-cons calls i call lt) is tells)
+late_at calls n i call why counted lt is tells = search (rules, drop-cons)
 
 module _ {S C : Type 0} (v : Sight S C) where
   -- ---- the chain

@@ -2,11 +2,9 @@
 use Rattle.std.proofs.Common.{◌≡◌, List, [], ◌∷◌, ◌++◌, length, take, drop, refl, sym, ap, subst, ◌∙◌, append_assoc, None, Some, Option, Ok, Err}
 use Rattle.desk_model.specs.declared.{call.Call.Call, reply.Reply.Reply}
 use Rattle.store_api.specs.Sight.{Sight}
-use Rattle.desk.specs.Runs.{AnswersAll, EndsBy}
-use Rattle.desk.specs.Seen.{Place, runs, Seen, seen_reply, seen_fault, seen_stop, seen_end, seen_open, seen_failure}
-use Rattle.desk.specs.Seen.{place_after, told_by, IsExitInPlace, MaySee, IsSeen}
-use Rattle.desk.specs.SeenRuns.{told_in_turn, IsSeenEnd, RunsAreSeen}
-use Rattle.desk.specs.declared.fault.DeskFault.{DeskFault}
+use Rattle.desk.specs.Seen.{Place, runs, Seen, seen_reply, seen_fault, seen_stop, seen_end, seen_open, seen_failure, place_after, told_by, IsExitInPlace}
+use Rattle.desk.specs.Seen.{MaySee, IsSeen}
+use Rattle.desk.specs.{Runs.AnswersAll, Runs.EndsBy, SeenRuns.told_in_turn, SeenRuns.IsSeenEnd, SeenRuns.RunsAreSeen, declared.fault.DeskFault.DeskFault}
 use Rattle.desk.proofs.Running.{honest_all, honest_end}
 
 -- the replies that were given in two stretches

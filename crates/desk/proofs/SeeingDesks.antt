@@ -1,11 +1,10 @@
 -- What is done to a desk, call after call, may be seen.
-use Rattle.std.proofs.Common.{◌≡◌, ◌∙◌, List, [], ◌∷◌, ◌++◌, Bool, true, false, Result, Ok, Err, refl, ap, subst, sym, inl, inr}
+use Rattle.std.proofs.Common.{◌≡◌, ◌∙◌, List, [], ◌∷◌, ◌++◌, Bool, true, false, Result, Ok, Err, refl, subst, sym, inl, inr, rules}
 use Rattle.desk_model.specs.declared.{call.Call.Call, reply.Reply.Reply}
 use Rattle.store_api.specs.Sight.{Sight}
-use Rattle.desk.specs.{Faults.closes, State.DeskState, declared.fault.DeskFault.DeskFault}
-use Rattle.desk.specs.Meets.{ActsOnce, Meets}
 use Rattle.desk.specs.Seen.{Place, runs, Seen, seen_reply, seen_fault, seen_stop, place_after, IsSeen}
 use Rattle.desk.specs.SeenDesks.{AreSeen, IsSeenOn, IsSeenTo, runs_on, stops}
+use Rattle.desk.specs.{Faults.closes, State.DeskState, declared.fault.DeskFault.DeskFault, Meets.ActsOnce, Meets.Meets}
 use Rattle.desk.proofs.Seeing.{seen_next}
 
 module _ {S C : Type 0} (v : Sight S C) where
@@ -92,5 +91,4 @@ module _ {S C : Type 0} (v : Sight S C) where
 
 -- and the policy is the same
 pub same_policy : {S C : Type 0} (v : Sight S C) (old new : DeskState S) → ActsOnce v old new → new.policy ≡ old.policy
-same_policy v old new (inl same) = ap (λ desk. desk.policy) same
-same_policy v old new (inr a) = a.meets.policy
+same_policy v old new h = search rules

@@ -1,11 +1,9 @@
 -- The exits of a call to a desk, by every legal history whose picture the store has, a stop leaving that alone.
 use Rattle.std.specs.Prelude.{◌≡◌, ◌⊎◌, Bool, false, None, Result, Ok, Err, IfErr}
-use Rattle.desk_model.specs.{Entry.History, Legal.Legal, Tables.picture, declared.call.Call.Call, declared.reply.Reply.Reply}
-use Rattle.desk_model.specs.Decide.{decide, after}
-use Rattle.desk_model.specs.Run.{fault, IsFormedCall}
+use Rattle.desk_model.specs.{Entry.History, Legal.Legal, Tables.picture, declared.call.Call.Call, declared.reply.Reply.Reply, Decide.decide, Decide.after}
+use Rattle.desk_model.specs.{Run.fault, Run.IsFormedCall}
 use Rattle.store_api.specs.Sight.{Sight, Keeps, Unchanged}
-use Rattle.desk.specs.Faults.{IsFault, closes}
-use Rattle.desk.specs.declared.fault.DeskFault.{DeskFault}
+use Rattle.desk.specs.{Faults.IsFault, Faults.closes, declared.fault.DeskFault.DeskFault}
 use Rattle.desk.specs.declared.fault.DeskFault.TheVariants as deskfault
 
 module _ {S C : Type 0} (v : Sight S C) where

@@ -1,8 +1,6 @@
 -- What the faults of a call come from, over a store of which this is so before and after a call of its own that failed.
 use Rattle.std.specs.Prelude.{Option}
-use Rattle.store_api.specs.Sight.{Sight, Unchanged}
-use Rattle.store_api.specs.Storing.{Causes, Saving}
-use Rattle.store_api.specs.declared.fault.StorageFault.{StorageFault}
+use Rattle.store_api.specs.{Sight.Sight, Sight.Unchanged, Storing.Causes, Storing.Saving, declared.fault.StorageFault.StorageFault}
 use Rattle.store_api.specs.declared.fault.StorageFault.TheVariants as storagefault
 use Rattle.desk.specs.declared.fault.DeskFault.{DeskFault}
 use Rattle.desk.specs.declared.fault.DeskFault.TheVariants as deskfault

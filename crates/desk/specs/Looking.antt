@@ -2,9 +2,7 @@
 use Rattle.std.specs.Prelude.{◌≡◌, ℕ, Bool, false, List, Option, Result, Ok, Err, OnOk, IfErr, IsTrue}
 use Rattle.store_api.specs.Sight.{HasStill, Sight}
 use Rattle.store_api.specs.declared.fault.StorageFault.TheVariants as storagefault
-use Rattle.desk.specs.Faults.{closes, storage_fault}
-use Rattle.desk.specs.State.{DeskState}
-use Rattle.desk.specs.declared.looking.LookFault.{LookFault}
+use Rattle.desk.specs.{Faults.closes, Faults.storage_fault, State.DeskState, declared.looking.LookFault.LookFault}
 use Rattle.desk.specs.declared.looking.LookFault.TheVariants as lookfault
 
 -- whether the desk is closed after a fault of a look: after one by which a call would close it; a writer that failed closes none

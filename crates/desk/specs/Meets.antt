@@ -2,8 +2,7 @@
 use Rattle.std.specs.Prelude.{◌≡◌, ◌⊎◌, true, false, Result, Err}
 use Rattle.desk_model.specs.declared.{call.Call.Call, reply.Reply.Reply}
 use Rattle.store_api.specs.Sight.{Sight}
-use Rattle.desk.specs.Answers.{Answers, is_closed_after}
-use Rattle.desk.specs.{State.DeskState, declared.fault.DeskFault.DeskFault}
+use Rattle.desk.specs.{Answers.Answers, Answers.is_closed_after, State.DeskState, declared.fault.DeskFault.DeskFault}
 use Rattle.desk.specs.declared.fault.DeskFault.TheVariants as deskfault
 
 -- a closed desk answers that it is to be opened again, and is untouched

@@ -1,10 +1,8 @@
 -- The exits of a run of calls.
 use Rattle.std.specs.Prelude.{◌≡◌, ◌⊎◌, ◌<◌, Bool, false, List, [], ◌∷◌, length, take, drop, Option, Some, None, Ok, Err}
 use Rattle.desk_model.specs.{Entry.History, Legal.Legal, Limits.last_moment, Tables.picture, Run.run, declared.call.Call.Call, declared.reply.Reply.Reply}
-use Rattle.store_api.specs.Sight.{Sight, Keeps}
-use Rattle.store_api.specs.Storing.{Causes}
-use Rattle.desk.specs.Answers.{Answers, ExitsBy}
-use Rattle.desk.specs.{Causes.IsCaused, Faults.closes, declared.fault.DeskFault.DeskFault}
+use Rattle.store_api.specs.{Sight.Sight, Sight.Keeps, Storing.Causes}
+use Rattle.desk.specs.{Answers.Answers, Answers.ExitsBy, Causes.IsCaused, Faults.closes, declared.fault.DeskFault.DeskFault}
 use Rattle.desk.specs.declared.fault.DeskFault.TheVariants as deskfault
 
 -- a run of the model's ends here, too: with the last call, or with a fault that the model knows

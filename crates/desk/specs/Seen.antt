@@ -3,8 +3,7 @@ use Rattle.std.specs.Prelude.{ℕ, ◌≡◌, ◌⊎◌, List, [], ◌∷◌, �
 use Rattle.desk_model.specs.{Entry.History, History.terms, Legal.Legal, Tables.picture, Decide.decide, declared.call.Call.Call, declared.reply.Reply.Reply}
 use Rattle.desk_model.specs.Life.{Event, Replied, Faulted, Stopped, Reopened, IsLife, history, is_running, made_by, Passed, EndedRowsStay}
 use Rattle.store_api.specs.Sight.{Sight, Keeps, Opens, FailsToOpen}
-use Rattle.desk.specs.Answers.{Answers, is_closed_after}
-use Rattle.desk.specs.declared.fault.DeskFault.{DeskFault}
+use Rattle.desk.specs.{Answers.Answers, Answers.is_closed_after, declared.fault.DeskFault.DeskFault}
 
 -- a desk runs over a store, or none runs and there is what a stop left
 pub data Place (S C : Type 0) : Type 0 where

@@ -2,8 +2,7 @@
 use Rattle.std.specs.Prelude.{◌≡◌, true, false, List, ◌∷◌, ◌++◌, Err}
 use Rattle.desk_model.specs.declared.call.Call.{Call}
 use Rattle.store_api.specs.Sight.{Sight}
-use Rattle.desk.specs.Seen.{Place, runs, Seen, seen_stop, place_after, IsSeen}
-use Rattle.desk.specs.{State.DeskState, declared.fault.DeskFault.DeskFault}
+use Rattle.desk.specs.{Seen.Place, Seen.runs, Seen.Seen, Seen.seen_stop, Seen.place_after, Seen.IsSeen, State.DeskState, declared.fault.DeskFault.DeskFault}
 
 module _ {S C : Type 0} (v : Sight S C) where
   -- after all that was seen the desk runs on; or it is closed, and what may be seen next is a stop, with whatever it leaves

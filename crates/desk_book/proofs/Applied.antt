@@ -1,7 +1,6 @@
 -- Changes, one after another.
 use Rattle.std.proofs.Common.{◌≡◌, List, [], ◌∷◌, ◌++◌, refl}
-use Rattle.desk_model.specs.{Tables.Tables, declared.rows.Change.Change}
-use Rattle.desk_model.specs.Change.{applied, applied_one}
+use Rattle.desk_model.specs.{Tables.Tables, declared.rows.Change.Change, Change.applied, Change.applied_one}
 
 -- the last change comes upon what the others made
 pub applied-last : (cs : List Change) (c : Change) (T : Tables) → applied (cs ++ c ∷ []) T ≡ applied_one c (applied cs T)

@@ -1,11 +1,8 @@
 -- What a map's look-up, insertion and removal are on the rows that it holds.
 use Rattle.std.proofs.Common.{◌≡◌, ℕ, Bool, true, false, cond, not, List, [], ◌∷◌, Option, Some, refl, sym, ap, ◌∙◌, arith, nat_cmp, is_eq, Ordering}
-use Rattle.std.specs.Prelude.{◌==◌, nat_lt, find}
-use Rattle.std.specs.List.{AllByRecursion, AllZip}
-use Rattle.std.specs.{Ordering.match_ordering, List.Sorted.IsStrictlySortedBy}
-use Rattle.std.specs.Map.{lookup, remove_entry, keys_of, values_of}
-use Rattle.std.specs.BTreeMap.{insert_entry, is_at}
 use Rattle.std.proofs.lemmas.{Bool.eqb-true, Bool.Decides.nat_tests, Map.Keys.sorted_head}
+use Rattle.std.specs.{Prelude.◌==◌, Prelude.nat_lt, Prelude.find, List.AllByRecursion, List.AllZip, List.Sorted.IsStrictlySortedBy, Map.lookup}
+use Rattle.std.specs.{Map.remove_entry, Map.keys_of, Map.values_of, BTreeMap.insert_entry, BTreeMap.is_at}
 use Rattle.desk_model.specs.Change.{put, remove}
 use Rattle.desk_book.specs.Keyed.{IsKeyed}
 
@@ -19,9 +16,7 @@ found_choice b c x o p e f = ap (λ d. cond d (Some x) o) e ∙ ap (λ q. cond c
 pub lookup-find : {X : Type 0} (number : X → ℕ) (n : ℕ) (es : List (ℕ × X)) → IsKeyed number es →
     lookup (is_at (nat_cmp n)) es ≡ find (λ r. number r == n) (values_of es)
 lookup-find number n [] h = refl
-lookup-find number n (e ∷ es) h =
-    found_choice (is_eq (nat_cmp n e.0)) (number e.1 == n) e.1 (lookup (is_at (nat_cmp n)) es) (find (λ r. number r == n) (values_of es))
-    (equal_test n e.0 ∙ ap (λ k. k == n) h.0) (lookup-find number n es h.1)
+lookup-find number n (e ∷ es) h = grind (arith, nat_tests, found_choice, equal_test, (lookup-find number n es h.1))
 
 equal_cmp : (k n : ℕ) → (k == n) ≡ true → nat_cmp k n ≡ Ordering.Equal
 equal_cmp k n h = grind (arith, nat_tests)
@@ -36,48 +31,19 @@ greater_cmp k n h l = grind (arith, nat_tests)
 pub insert-put : {X : Type 0} (number : X → ℕ) (x : X) (es : List (ℕ × X)) → IsKeyed number es →
     values_of (insert_entry nat_cmp es (number x) x) ≡ put number x (values_of es)
 insert-put number x [] h = refl
-insert-put {X} number x (e ∷ es) h =
-    by (number x == number e.1) refl (nat_lt (number x) (number e.1)) refl (insert-put number x es h.1)
-  where
-    by : (b : Bool) → (number x == number e.1) ≡ b → (c : Bool) → nat_lt (number x) (number e.1) ≡ c →
-        values_of (insert_entry nat_cmp es (number x) x) ≡ put number x (values_of es) →
-        values_of (match_ordering (nat_cmp (number x) e.0) ((number x, x) ∷ e ∷ es) ((e.0, x) ∷ es) (e ∷ insert_entry nat_cmp es (number x) x))
-        ≡ cond b (x ∷ values_of es) (cond c (x ∷ e.1 ∷ values_of es) (e.1 ∷ put number x (values_of es)))
-    by true p c q ih =
-        ap (λ o. values_of (match_ordering o ((number x, x) ∷ e ∷ es) ((e.0, x) ∷ es) (e ∷ insert_entry nat_cmp es (number x) x)))
-        (ap (λ k. nat_cmp (number x) k) h.0 ∙ equal_cmp (number x) (number e.1) p)
-    by false p true q ih =
-        ap (λ o. values_of (match_ordering o ((number x, x) ∷ e ∷ es) ((e.0, x) ∷ es) (e ∷ insert_entry nat_cmp es (number x) x)))
-        (ap (λ k. nat_cmp (number x) k) h.0 ∙ less_cmp (number x) (number e.1) q)
-    by false p false q ih =
-        ap (λ o. values_of (match_ordering o ((number x, x) ∷ e ∷ es) ((e.0, x) ∷ es) (e ∷ insert_entry nat_cmp es (number x) x)))
-        (ap (λ k. nat_cmp (number x) k) h.0 ∙ greater_cmp (number x) (number e.1) p q)
-        ∙ ap (λ l. e.1 ∷ l) ih
+insert-put {X} number x (e ∷ es) h = grind (arith, nat_tests, equal_cmp, less_cmp, greater_cmp, (insert-put number x es h.1))
 
 -- the keys are the numbers of the rows after an insertion, too
 pub IsKeyed-insert : {X : Type 0} (number : X → ℕ) (x : X) (es : List (ℕ × X)) → IsKeyed number es →
     IsKeyed number (insert_entry nat_cmp es (number x) x)
 IsKeyed-insert number x [] h = (refl, tt)
-IsKeyed-insert {X} number x (e ∷ es) h = by (nat_cmp (number x) e.0) refl (IsKeyed-insert number x es h.1)
-  where
-    equal : nat_cmp (number x) e.0 ≡ Ordering.Equal → e.0 ≡ number x
-    equal p = let t : (e.0 == number x) ≡ true = sym (equal_test (number x) e.0) ∙ ap is_eq p in eqb-true e.0 (number x) t
-
-    by : (o : Ordering) → nat_cmp (number x) e.0 ≡ o → IsKeyed number (insert_entry nat_cmp es (number x) x) →
-        IsKeyed number (match_ordering o ((number x, x) ∷ e ∷ es) ((e.0, x) ∷ es) (e ∷ insert_entry nat_cmp es (number x) x))
-    by Ordering.Less p ih = (refl, (h.0, h.1))
-    by Ordering.Equal p ih = (equal p, h.1)
-    by Ordering.Greater p ih = (h.0, ih)
+IsKeyed-insert {X} number x (e ∷ es) h = grind (arith, nat_tests, equal_test, eqb-true, (IsKeyed-insert number x es h.1))
 
 -- the keys are the numbers of the rows after a removal, too
 pub IsKeyed-remove : {X : Type 0} (number : X → ℕ) (n : ℕ) (es : List (ℕ × X)) → IsKeyed number es →
     IsKeyed number (remove_entry (is_at (nat_cmp n)) es)
 IsKeyed-remove number n [] h = tt
-IsKeyed-remove {X} number n (e ∷ es) h = by (is_eq (nat_cmp n e.0)) (IsKeyed-remove number n es h.1)
-  where
-    by : (b : Bool) → IsKeyed number (remove_entry (is_at (nat_cmp n)) es) → IsKeyed number (cond b es (e ∷ remove_entry (is_at (nat_cmp n)) es))
-    by true ih = h.1
-    by false ih = (h.0, ih)
+IsKeyed-remove {X} number n (e ∷ es) h = grind (arith, nat_tests, (IsKeyed-remove number n es h.1))
 
 no_number : (n k : ℕ) → nat_cmp n k ≡ Ordering.Less → (n == k) ≡ false
 no_number n k h = grind (arith, nat_tests)
@@ -86,9 +52,7 @@ no_number n k h = grind (arith, nat_tests)
 none_removed : {X : Type 0} (number : X → ℕ) (n : ℕ) (es : List (ℕ × X)) → IsKeyed number es → AllByRecursion (λ k. nat_cmp n k ≡ Ordering.Less) (keys_of es) →
     remove number n (values_of es) ≡ values_of es
 none_removed number n [] h a = refl
-none_removed {X} number n (e ∷ es) h a =
-    ap (λ b. cond (not b) (e.1 ∷ remove number n (values_of es)) (remove number n (values_of es))) (ap (λ k. n == k) (sym h.0) ∙ no_number n e.0 a.0)
-    ∙ ap (λ l. e.1 ∷ l) (none_removed number n es h.1 a.1)
+none_removed {X} number n (e ∷ es) h a = grind (arith, nat_tests, no_number, (none_removed number n es h.1 a.1))
 
 -- a removal by number leaves the other rows
 pub remove-remove : {X : Type 0} (number : X → ℕ) (n : ℕ) (es : List (ℕ × X)) → IsKeyed number es → IsStrictlySortedBy nat_cmp (keys_of es) →
@@ -98,10 +62,7 @@ remove-remove number n [] h s = refl
 remove-remove {X} number n (e ∷ es) h s = by (is_eq (nat_cmp n e.0)) refl (remove-remove number n es h.1 s.1)
   where
     same : (b : Bool) → is_eq (nat_cmp n e.0) ≡ b → (n == number e.1) ≡ b
-    same b p = ap (λ k. n == k) (sym h.0) ∙ flipped ∙ sym (equal_test n e.0) ∙ p
-      where
-        flipped : (n == e.0) ≡ (e.0 == n)
-        flipped = grind (arith, nat_tests)
+    same g i = grind (arith, nat_tests, equal_test, nat_tests)
 
     by : (b : Bool) → is_eq (nat_cmp n e.0) ≡ b → values_of (remove_entry (is_at (nat_cmp n)) es) ≡ remove number n (values_of es) →
         values_of (cond b es (e ∷ remove_entry (is_at (nat_cmp n)) es))

@@ -1,5 +1,6 @@
 -- Rows that pass a test, each made into a change.
-use Rattle.std.proofs.Common.{◌≡◌, Bool, true, false, cond, List, [], ◌∷◌, ◌++◌, map, filter, ap, sym, ◌∙◌, append_assoc}
+use Rattle.std.proofs.Common.{◌≡◌, Bool, true, false, List, [], ◌∷◌, ◌++◌, map, filter, append_assoc, arith}
+use Rattle.std.proofs.lemmas.Bool.Decides.{nat_tests}
 
 -- the change of a row that passes goes behind those before
 pub change_added : {X Y C : Type 0} (test : X → Bool) (make : X → Y) (change : Y → C) (x : X) (done pushed all : List C) (before rest : List X) →
@@ -8,12 +9,7 @@ pub change_added : {X Y C : Type 0} (test : X → Bool) (make : X → Y) (change
     before ≡ x ∷ rest →
     done ++ map change (map make (filter test before)) ≡ all →
     pushed ++ map change (map make (filter test rest)) ≡ all
-change_added test make change x done pushed all before rest passes is next h =
-    ap (λ l. l ++ map change (map make (filter test rest))) is
-    ∙ append_assoc done (change (make x) ∷ []) (map change (map make (filter test rest)))
-    ∙ ap (λ b. done ++ map change (map make (cond b (x ∷ filter test rest) (filter test rest)))) (sym passes)
-    ∙ ap (λ l. done ++ map change (map make (filter test l))) (sym next)
-    ∙ h
+change_added test make change x done pushed all before rest passes is next h = grind (arith, nat_tests, append_assoc)
 
 -- one that does not pass is left out
 pub change_spared : {X Y C : Type 0} (test : X → Bool) (make : X → Y) (change : Y → C) (x : X) (done all : List C) (before rest : List X) →
@@ -21,7 +17,4 @@ pub change_spared : {X Y C : Type 0} (test : X → Bool) (make : X → Y) (chang
     before ≡ x ∷ rest →
     done ++ map change (map make (filter test before)) ≡ all →
     done ++ map change (map make (filter test rest)) ≡ all
-change_spared test make change x done all before rest fails next h =
-    ap (λ b. done ++ map change (map make (cond b (x ∷ filter test rest) (filter test rest)))) (sym fails)
-    ∙ ap (λ l. done ++ map change (map make (filter test l))) (sym next)
-    ∙ h
+change_spared test make change x done all before rest fails next h = grind (arith, nat_tests)

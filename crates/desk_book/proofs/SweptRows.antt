@@ -1,35 +1,21 @@
 -- Rows that are looked up at a moment: those that stand, with their statuses then.
-use Rattle.std.proofs.Common.{◌≡◌, ℕ, ◌+◌, Option, None, Bool, true, false, cond, List, [], ◌∷◌, map, Some, refl, sym, ap, ◌∙◌}
-use Rattle.std.specs.Prelude.{◌==◌, ◌||◌, find, is_some}
-use Rattle.std.specs.{List.list_any, Option.option_map}
+use Rattle.std.proofs.Common.{◌≡◌, ℕ, ◌+◌, Option, Bool, true, false, cond, List, [], ◌∷◌, map, Some, refl, ◌∙◌, arith}
+use Rattle.std.proofs.lemmas.Bool.Decides.{nat_tests}
+use Rattle.std.specs.{Prelude.◌==◌, Prelude.◌||◌, Prelude.find, Prelude.is_some, List.list_any, Option.option_map}
 use Rattle.desk_model.specs.{Tables.Tables, Name.Name, declared.rows.AuthorizationRow.AuthorizationRow, declared.rows.ChallengeRow.ChallengeRow}
 use Rattle.desk_model.specs.declared.{rows.OrderRow.OrderRow, status.AuthzStatus.AuthzStatus, status.OrderStatus.OrderStatus}
-use Rattle.desk_model.specs.Effect.{has_row, is_overdue, falls, swept, swept_authorization, swept_order}
+use Rattle.desk_model.specs.Effect.{has_row, swept, swept_authorization, swept_order}
 use Rattle.desk_model.specs.Questions.{authorization_on, challenge_of, order_on, owner_on, serves, serving_on}
 use Rattle.model_laws.proofs.Basics.{find-map}
-use Rattle.desk_model.specs.declared.status.AuthzStatus.TheVariants as authz
-use Rattle.desk_model.specs.declared.status.OrderStatus.TheVariants as order
 
 -- only the status of an authorization moves by the passing of time
 pub swept_authorization-status : (m : ℕ) (row : AuthorizationRow) → record row { status = (swept_authorization m row).status } ≡ swept_authorization m row
-swept_authorization-status m row = by (is_overdue m row)
-  where
-    by : (b : Bool) →
-        (let moved : AuthorizationRow = cond b (record row { status = authz.Expired }) row in
-        record row { status = moved.status } ≡ moved)
-    by true = refl
-    by false = refl
+swept_authorization-status m row = grind (arith, nat_tests)
 
 -- and only that of an order
 pub swept_order-status : (m : ℕ) (rows : List AuthorizationRow) (row : OrderRow)
     → record row { status = (swept_order m rows row).status } ≡ swept_order m rows row
-swept_order-status m rows row = by (falls m rows row)
-  where
-    by : (b : Bool) →
-        (let moved : OrderRow = cond b (record row { status = order.Invalid }) row in
-        record row { status = moved.status } ≡ moved)
-    by true = refl
-    by false = refl
+swept_order-status m rows row = grind (arith, nat_tests)
 
 -- a test that a move leaves passes the moved rows that it passed
 pub find-moved : {X : Type 0} (test : X → Bool) (move : X → X) (xs : List X) → ((x : X) → test (move x) ≡ test x)
@@ -38,40 +24,23 @@ find-moved test move xs same = find-map test move xs ∙ (λ i. option_map move 
 
 -- the authorization of a number, and the one that a challenge is of
 pub swept_authorization_on : (m : ℕ) (T : Tables) (n : ℕ) → authorization_on (swept m T) n ≡ option_map (swept_authorization m) (authorization_on T n)
-swept_authorization_on m T n =
-    find-moved (λ a. a.number == n) (swept_authorization m) T.authorizations (λ a. ap (λ k. k == n) (number a))
-  where
-    number : (a : AuthorizationRow) → (swept_authorization m a).number ≡ a.number
-    number a = sym (ap (λ (r : AuthorizationRow). r.number) (swept_authorization-status m a))
+swept_authorization_on m T n = grind (arith, nat_tests, find-moved, swept_authorization-status)
 
 pub swept_owner_on : (m : ℕ) (T : Tables) (n : ℕ) → owner_on (swept m T) n ≡ option_map (swept_authorization m) (owner_on T n)
-swept_owner_on m T n =
-    find-moved (has_row n) (swept_authorization m) T.authorizations (λ a. sym (ap (has_row n) (swept_authorization-status m a)))
+swept_owner_on m T n = grind (arith, nat_tests, find-moved, swept_authorization-status)
 
 -- the order of a number
 pub swept_order_on : (m : ℕ) (T : Tables) (n : ℕ) → order_on (swept m T) n ≡ option_map (swept_order m T.authorizations) (order_on T n)
-swept_order_on m T n =
-    find-moved (λ o. o.number == n) (swept_order m T.authorizations) T.orders (λ o. ap (λ k. k == n) (number o))
-  where
-    number : (o : OrderRow) → (swept_order m T.authorizations o).number ≡ o.number
-    number o = sym (ap (λ (r : OrderRow). r.number) (swept_order-status m T.authorizations o))
+swept_order_on m T n = grind (arith, nat_tests, find-moved, swept_order-status)
 
 -- a row that is found, with its status at the moment
 pub authorization-found : (m : ℕ) (o found : Option AuthorizationRow) (row : AuthorizationRow) (s : AuthzStatus) → found ≡ option_map (swept_authorization m) o
     → Some row ≡ o → s ≡ (swept_authorization m row).status → Some (record row { status = s }) ≡ found
-authorization-found m o found row s moves there is =
-    ap (λ x. Some (record row { status = x })) is
-    ∙ ap (λ r. Some r) (swept_authorization-status m row)
-    ∙ ap (option_map (swept_authorization m)) there
-    ∙ sym moves
+authorization-found m o found row s moves there is = grind (arith, nat_tests)
 
 pub order-found : (m : ℕ) (rows : List AuthorizationRow) (o found : Option OrderRow) (row : OrderRow) (s : OrderStatus)
     → found ≡ option_map (swept_order m rows) o → Some row ≡ o → s ≡ (swept_order m rows row).status → Some (record row { status = s }) ≡ found
-order-found m rows o found row s moves there is =
-    ap (λ x. Some (record row { status = x })) is
-    ∙ ap (λ r. Some r) (swept_order-status m rows row)
-    ∙ ap (option_map (swept_order m rows)) there
-    ∙ sym moves
+order-found m rows o found row s moves there is = grind (arith, nat_tests)
 
 -- an authorization that has a challenge of a number has one to be found
 pub challenge_there : (n : ℕ) (a : AuthorizationRow) → is_some (challenge_of n a) ≡ has_row n a
@@ -90,14 +59,4 @@ challenge_there n a = by a.challenges
 pub swept_serving_on : (m : ℕ) (T : Tables) (account : ℕ) (name : Name) (life : ℕ) (rows : List AuthorizationRow) (o : Option AuthorizationRow) →
     life ≡ T.meta.policy.order_life → rows ≡ T.authorizations → o ≡ find (λ r. serves account name (m + life) (swept_authorization m r)) rows →
     option_map (λ (r : AuthorizationRow). r.number) o ≡ option_map (λ (r : AuthorizationRow). r.number) (serving_on (swept m T) account name)
-swept_serving_on m T account name life rows o lives stand is =
-    ap (option_map (λ (r : AuthorizationRow). r.number))
-    (is ∙ (λ i. find (λ r. serves account name (m + lives i) (swept_authorization m r)) (stand i)))
-    ∙ number (find (λ r. serves account name (m + T.meta.policy.order_life) (swept_authorization m r)) T.authorizations)
-    ∙ sym (ap (option_map (λ (r : AuthorizationRow). r.number))
-    (find-map (serves account name (m + T.meta.policy.order_life)) (swept_authorization m) T.authorizations))
-  where
-    number : (o : Option AuthorizationRow) →
-        option_map (λ (r : AuthorizationRow). r.number) o ≡ option_map (λ (r : AuthorizationRow). r.number) (option_map (swept_authorization m) o)
-    number None = refl
-    number (Some row) = ap (λ n. Some n) (ap (λ (r : AuthorizationRow). r.number) (swept_authorization-status m row))
+swept_serving_on m T account name life rows o lives stand is = grind (arith, nat_tests, find-map, swept_authorization-status)

@@ -1,11 +1,9 @@
 -- What each arm of a verdict records and shows is what the verdict does.
-use Rattle.std.proofs.Common.{◌≡◌, ◌++◌, ◌∷◌, [], ℕ, true, false, List, Result, Ok, Err, OnOk, refl, ap, subst, sym}
+use Rattle.std.proofs.Common.{◌≡◌, ◌++◌, ◌∷◌, [], ℕ, true, false, List, Result, OnOk, ap, sym, rules}
 use Rattle.model_laws.specs.Ordered.{IsOrdered}
-use Rattle.desk_model.specs.Decide.{entries_of, verdict_reply}
-use Rattle.desk_model.specs.Effect.{effects, swept}
-use Rattle.desk_model.specs.{Entry.entry_of, Shown.moved_reply, Tables.Tables, declared.rows.Counters.Counters, declared.entry.Entry.Entry}
-use Rattle.desk_model.specs.declared.{entry.Move.Move, reply.Reply.Reply, rows.Change.Change, verdict.Verdict.Verdict}
-use Rattle.desk_model.specs.declared.verdict.Verdict.TheVariants.{Refused as refused, KeyTaken as key_taken, Moves as moves}
+use Rattle.desk_model.specs.{Decide.entries_of, Decide.verdict_reply, Effect.effects, Effect.swept, Entry.entry_of, Shown.moved_reply, Tables.Tables}
+use Rattle.desk_model.specs.{declared.rows.Counters.Counters, declared.entry.Entry.Entry, declared.entry.Move.Move, declared.reply.Reply.Reply}
+use Rattle.desk_model.specs.{declared.rows.Change.Change, declared.verdict.Verdict.Verdict, declared.verdict.Verdict.TheVariants.Moves as moves}
 use Rattle.core_changes.specs.Recorded.{IsAt, IsRecorded, IsUntouched}
 use Rattle.desk_core.specs.HasTexts.{HasTexts}
 use Rattle.desk_core.proofs.ActingRows.{same_entries}
@@ -31,18 +29,14 @@ clock_at m B C at = ap (λ (D : Counters). D.clock) at
 
 -- what holds however a call ended holds where it was answered
 pub where_answered : {X E P : Type 0} (r : Result X E) → P → OnOk r P
-where_answered (Ok x) p = p
-where_answered (Err e) p = tt
+where_answered r h = search rules
 
 -- what is shown of a move at the moment of the counters is its reply
 pub replies_move : (B : Tables) (C : Counters) (v : Move) (r : Reply)
     → (HasTexts (effects C.clock (swept C.clock B) (entry_of v ∷ [])) → r ≡ moved_reply (effects C.clock (swept C.clock B) (entry_of v ∷ [])) v)
     → Replies B C (moves v) r
-replies_move B C v r said m at ordered =
-    subst (λ n. HasTexts (effects n (swept n B) (entry_of v ∷ [])) → r ≡ moved_reply (effects n (swept n B) (entry_of v ∷ [])) v) (clock_at m B C at) said
+replies_move B C v r said m at ordered = search rules
 
 -- the link to the directory is no matter where something is recorded
 pub linked : (T : Tables) (v : Verdict) (e : Entry) (es : List Entry) → entries_of v ≡ e ∷ es → verdict_reply true T v ≡ verdict_reply false T v
-linked T (refused why subproblems) e es is = cc is
-linked T (key_taken account) e es is = cc is
-linked T _ e es is = refl
+linked T v e es h = search rules

@@ -1,30 +1,22 @@
 -- What a verdict's entry makes, as the reply shows it.
-use Rattle.std.proofs.Common.{◌≡◌, ℕ, ◌+◌, ◌≤◌, List, [], ◌∷◌, map, Option, Some, None, IfSome, true, refl, sym, ap, subst, ◌∙◌, arith, cond}
-use Rattle.std.specs.Prelude.{◌==◌, IsTrue, find}
-use Rattle.std.specs.{Option.option_map, List.list_all}
+use Rattle.std.proofs.Common.{◌≡◌, ℕ, ◌+◌, ◌≤◌, List, [], ◌∷◌, map, Option, Some, None, true, refl, sym, ap, subst, ◌∙◌, arith, cond, rules}
 use Rattle.std.proofs.lemmas.Bool.{and_parts, eq-eqb}
+use Rattle.std.specs.{Prelude.◌==◌, Prelude.IsTrue, Prelude.find, Option.option_map, List.list_all}
+use Rattle.desk_model.specs.Effect.{authorizations_after, effect, moved_account, moved_order, new_authorizations, swept, swept_order}
 use Rattle.desk_model.specs.{Tables.Tables, Derived.authorization_numbered, Legal.wanted_name, Allowed.may_want_on, Lookup.holds, Order.listed_by, Kept.EachOf}
-use Rattle.desk_model.specs.{Limits.last_end, declared.objects.Authorization.Authorization, declared.entry.Entry.Entry, declared.entry.Wanted.Wanted}
-use Rattle.desk_model.specs.declared.rows.{AccountRow.AccountRow, AuthorizationRow.AuthorizationRow, Change.Change, Counters.Counters, OrderRow.OrderRow}
-use Rattle.desk_model.specs.Document.{and_row, listed_rows, rows_of}
-use Rattle.desk_model.specs.Effect.{authorizations_after, effect, moved_account, moved_order, new_authorizations, swept, swept_authorization, swept_order}
-use Rattle.desk_model.specs.Authorization.{is_valid, made_for}
-use Rattle.desk_model.specs.Name.{Name, same_name}
-use Rattle.desk_model.specs.Questions.{account_on, order_end, order_on, serves}
-use Rattle.desk_model.specs.declared.entry.Entry.TheVariants.{Opened as opened, Ordered as ordered}
-use Rattle.desk_model.specs.declared.entry.Wanted.TheVariants.{New as new, Reused as reused}
+use Rattle.desk_model.specs.{Limits.last_end, declared.entry.Entry.Entry, declared.entry.Wanted.Wanted, declared.rows.AccountRow.AccountRow}
+use Rattle.desk_model.specs.{declared.rows.AuthorizationRow.AuthorizationRow, declared.rows.Change.Change, declared.rows.Counters.Counters}
+use Rattle.desk_model.specs.{declared.rows.OrderRow.OrderRow, Document.and_row, Document.listed_rows, Document.rows_of, Authorization.is_valid}
+use Rattle.desk_model.specs.{Authorization.made_for, Name.Name, Name.same_name, Questions.account_on, Questions.order_end, Questions.order_on, Questions.serves}
+use Rattle.desk_model.specs.{declared.entry.Entry.TheVariants.Opened as opened, declared.entry.Entry.TheVariants.Ordered as ordered}
+use Rattle.desk_model.specs.{declared.entry.Wanted.TheVariants.New as new, declared.entry.Wanted.TheVariants.Reused as reused}
 use Rattle.model_laws.specs.Ordered.{Ascends, Below, IsOrdered}
-use Rattle.model_laws.proofs.Chain.{account_number, order_number}
-use Rattle.model_laws.proofs.Local.{swept_number, swept_order_number}
-use Rattle.model_laws.proofs.RowLists.{ascends_map, none_below}
-use Rattle.model_laws.proofs.Basics.{each, each_of_map}
-use Rattle.core_changes.specs.Recorded.{IsAt, IsRecorded}
+use Rattle.model_laws.proofs.{Chain.account_number, Chain.order_number, Local.swept_order_number, RowLists.ascends_map, RowLists.none_below, Basics.each}
+use Rattle.model_laws.proofs.{Basics.each_of_map, OrderFacts.numbers_listed}
+use Rattle.core_changes.specs.{Recorded.IsAt, Recorded.IsRecorded, Made.AreReusable, Made.next_account, Made.next_order}
 use Rattle.desk_core.specs.HasTexts.{HasTexts}
-use Rattle.core_changes.specs.Made.{AreReusable, made_row, next_account, next_order}
-use Rattle.core_changes.proofs.MadeRows.{find-after, made_found, stood_found}
-use Rattle.model_laws.proofs.OrderFacts.{numbers_listed}
+use Rattle.core_changes.proofs.{MadeRows.find-after, MadeRows.made_found, MadeRows.stood_found, Moving.below_swept, Moving.ordered_one}
 use Rattle.identifiers.proofs.NamesKept.{same_names}
-use Rattle.core_changes.proofs.Moving.{below_swept, ordered_one}
 use Rattle.desk_core.proofs.ShownTexts.{order_ends}
 use Rattle.desk_book.proofs.SweptRows.{find-moved}
 
@@ -61,9 +53,7 @@ account_after m B key contacts is =
 -- it is found by its number
 pub opened_found : (m : ℕ) (B : Tables) (C : Counters) (key : List ℕ) (contacts : List (List ℕ)) → IsAt m B C → IsOrdered B →
     (let T : Tables = effect m (swept m B) (opened key contacts) in account_on T T.meta.counters.accounts ≡ Some (next_account C key contacts))
-opened_found m B C key contacts at is =
-    account_after m B key contacts is
-    ∙ ap (λ x. Some (next_account x key contacts)) (sym at)
+opened_found m B C key contacts at is = search (rules, account_after)
 
 -- ---- an order that is made
 
@@ -116,8 +106,7 @@ AreNamed all (reused name n ∷ ws) = IsNamed all n name × AreNamed all ws
 -- a row that is found gives its name
 name_on : (o : Option AuthorizationRow) (name : Name) (rest : List AuthorizationRow) → option_map (λ r. r.name) o ≡ Some name →
     map (λ r. r.name) (and_row o rest) ≡ name ∷ map (λ r. r.name) rest
-name_on None name rest h = cc
-name_on (Some row) name rest h = let same : row.name ≡ name = cc in ap (λ n. n ∷ map (λ r. r.name) rest) same
+name_on o name rest h = search rules
 
 -- the names of what an order lists are those that are wanted
 names_listed : (all : List AuthorizationRow) (account date expires : ℕ) (ws : List Wanted) (n c : ℕ) →
@@ -127,18 +116,12 @@ names_listed all account date expires [] n c h k = refl
 names_listed all account date expires (new name tokens ∷ ws) n c h k =
     name_on (authorization_numbered n all) name (rows_of all (listed_by ws (n + 1))) h.0
     ∙ ap (λ rest. name ∷ rest) (names_listed all account date expires ws (n + 1) _ h.1 k)
-names_listed all account date expires (reused name j ∷ ws) n c h k =
-    name_on (authorization_numbered j all) name (rows_of all (listed_by ws n)) k.0
-    ∙ ap (λ rest. name ∷ rest) (names_listed all account date expires ws n c h k.1)
+names_listed all account date expires (reused name j ∷ ws) n c h k = grind (arith, (names_listed all account date expires ws n c h k.1))
 
 -- new authorizations have the names that they are made for
 made_named : (T : Tables) (m account : ℕ) (wanted : List Wanted) → Below (λ a. a.number) (T.meta.counters.authorizations + 1) T.authorizations →
     EachOf (λ a. IsNamed (authorizations_after T (ordered account wanted) m) a.number a.name) (new_authorizations T (ordered account wanted) m)
-made_named T m account wanted below =
-    each _ _ made (λ a h. ap (option_map (λ r. r.name)) h) (each_of_map _ (made_row m) made (made_found T m account wanted below))
-  where
-    made : List Authorization
-    made = new_authorizations T (ordered account wanted) m
+made_named T m account wanted below = grind (arith, each, each_of_map, (made_found T m account wanted below))
 
 -- those that are used again have the names that they serve
 reused_named : (T : Tables) (m account : ℕ) (wanted ws : List Wanted) → list_all (may_want_on T account) ws ≡ true →
@@ -173,26 +156,20 @@ names_after m B account wanted is may =
 pub ordered_names : (m : ℕ) (B : Tables) (C : Counters) (account : ℕ) (wanted : List Wanted) → IsAt m B C → IsOrdered B →
     list_all (may_want_on (swept m B) account) wanted ≡ true →
     map (λ a. a.name) (listed_rows (effect m (swept m B) (ordered account wanted)) (next_order B.meta.policy C account wanted)) ≡ map wanted_name wanted
-ordered_names m B C account wanted at is may =
-    ap (λ x. map (λ a. a.name) (listed_rows (effect m (swept m B) (ordered account wanted)) (next_order B.meta.policy x account wanted))) at
-    ∙ names_after m B account wanted is may
+ordered_names m B C account wanted at is may = search (rules, names_after)
 
 -- the rows at the moment stand by number
 pub swept_ascends : (m : ℕ) (B : Tables) → IsOrdered B → Ascends (λ a. a.number) 1 (swept m B).authorizations
-swept_ascends m B is =
-    ascends_map (λ a. a.number) (λ r. r.number) (swept_authorization m) (swept_number m) 1 B.authorizations is.authorizations.0
+swept_ascends m B is = search (rules, ascends_map)
 
 -- what an order may use again at the moment of the counters it may at this one
 pub may_be_wanted : (m t : ℕ) (B : Tables) (account : ℕ) (wanted : List Wanted) → t ≡ m → IsOrdered B →
     (Ascends (λ a. a.number) 1 (swept t B).authorizations → IsTrue (list_all (may_want_on (swept t B) account) wanted)) →
     list_all (may_want_on (swept m B) account) wanted ≡ true
-may_be_wanted m t B account wanted clock is may =
-    subst (λ n. list_all (may_want_on (swept n B) account) wanted ≡ true) clock (may (swept_ascends t B is))
+may_be_wanted m t B account wanted clock is may = search (rules, swept_ascends)
 
 -- its moment has a text
 pub ordered_text : (m : ℕ) (B : Tables) (C : Counters) (account : ℕ) (wanted : List Wanted) → IsAt m B C → IsOrdered B →
     AreReusable (swept m B).authorizations wanted →
     HasTexts (effect m (swept m B) (ordered account wanted)) → (next_order B.meta.policy C account wanted).expires ≤ last_end
-ordered_text m B C account wanted at is reusable texts =
-    subst (λ o. IfSome o (λ o. o.expires ≤ last_end)) (ordered_found m B C account wanted at is reusable)
-    (order_ends (effect m (swept m B) (ordered account wanted)) (B.meta.counters.orders + 1) texts)
+ordered_text m B C account wanted at is reusable texts = grind (arith, (ordered_found m B C account wanted at is reusable), (order_ends (effect m (swept m B) (ordered account wanted)) (B.meta.counters.orders + 1) texts))

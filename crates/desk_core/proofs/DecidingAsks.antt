@@ -1,27 +1,23 @@
 -- What is promised of each ask.
-use Rattle.std.proofs.Common.{◌≡◌, ℕ, ◌+◌, ◌*◌, ◌≤◌, max, true, false, List, [], ◌∷◌, ◌++◌, length, take, drop, Option, Some, None, refl, sym, ap, subst, ◌∙◌}
-use Rattle.std.proofs.Common.{arith, Result, Ok, Err, IfOk, IfErr, MatchResult}
+use Rattle.std.proofs.Common.{◌≡◌, ℕ, ◌+◌, ◌*◌, ◌≤◌, max, true, List, [], ◌∷◌, ◌++◌, length, take, drop, Option, Some, None, refl, sym, ap, subst, ◌∙◌, arith}
+use Rattle.std.proofs.Common.{Result, IfOk, IfErr, MatchResult, rules}
 use Rattle.std.specs.Prelude.{IsTrue}
-use Rattle.desk_model.specs.{Change.recorded_changes, Entry.History, Limits.last_moment, Decide.signed_decision}
-use Rattle.desk_model.specs.declared.{call.Call.Call, call.Ask.Ask, call.OfficeAsk.OfficeAsk, call.Signed.Signed, reply.Reply.Reply, verdict.Verdict.Verdict}
-use Rattle.desk_model.specs.declared.{rows.Change.Change, entry.Entry.Entry}
-use Rattle.desk_model.specs.declared.refusal.Refusal.TheVariants as refusal
-use Rattle.desk_model.specs.History.{clock, moment_of, record_all}
-use Rattle.desk_model.specs.Legal.{Legal, EachFollows, numbers_fit}
-use Rattle.desk_model.specs.Tables.{Tables, tables_at, picture}
-use Rattle.desk_model.specs.Effect.{effects, swept}
-use Rattle.desk_model.specs.Rules.{office_verdict, signed_verdict, open_nonce}
+use Rattle.desk_model.specs.Decide.{signed_decision, Decision, decide, decide_at, entries_of, nonce_entries, office_decision, passed_decision, verdict_reply}
+use Rattle.desk_model.specs.Decide.{tables_after}
 use Rattle.desk_model.specs.Shown.{with_nonce, fresh_nonce, refusal_reply, nonce_reply}
-use Rattle.desk_model.specs.Decide.{Decision, decide, decide_at, entries_of, nonce_entries, office_decision, passed_decision, verdict_reply, tables_after}
-use Rattle.desk_model.specs.Run.{count_pieces, IsFormedCall}
+use Rattle.desk_model.specs.{Change.recorded_changes, Entry.History, Limits.last_moment, History.clock, History.moment_of, History.record_all, Legal.Legal}
+use Rattle.desk_model.specs.{Legal.EachFollows, Legal.numbers_fit, Tables.Tables, Tables.tables_at, Tables.picture, Effect.effects, Effect.swept}
+use Rattle.desk_model.specs.{Rules.office_verdict, Rules.signed_verdict, Rules.open_nonce, Run.count_pieces, Run.IsFormedCall}
+use Rattle.desk_model.specs.declared.{call.Call.Call, call.Ask.Ask, call.OfficeAsk.OfficeAsk, call.Signed.Signed, reply.Reply.Reply, verdict.Verdict.Verdict}
+use Rattle.desk_model.specs.declared.{rows.Change.Change, entry.Entry.Entry, entry.Entry.TheVariants.Issued as issued, entry.Entry.TheVariants.Spent as spent}
+use Rattle.desk_model.specs.declared.refusal.Refusal.TheVariants as refusal
 use Rattle.desk_model.specs.declared.call.Ask.TheVariants as ask
-use Rattle.desk_model.specs.declared.entry.Entry.TheVariants.{Issued as issued, Spent as spent}
 use Rattle.model_laws.proofs.{Recorded.tables_ordered, Keeps.numbers_fit_counters}
 use Rattle.model_laws.specs.Ordered.{IsOrdered}
 use Rattle.desk_core.specs.{HasTexts.HasTexts, Decided.IsDecision, SameRows.SameRows}
 use Rattle.desk_core.specs.Outcomes.{Issues, Passes, Settles, MeetsSigned, MeetsAsk}
 use Rattle.core_rules.specs.Needs.{NumbersLeft}
-use Rattle.desk_core.proofs.Deciding.{after_is, counters, decides, decides_none, fits_issued, fits_nonces, left_same, now_is, texts_same}
+use Rattle.desk_core.proofs.Deciding.{after_is, counters, decides, decides_none, fits_issued, fits_nonces, now_is, texts_same}
 use Rattle.desk_core.proofs.{NumbersAfter.numbers_left, QuietRows.nonce_rows, SameVerdicts.signed_same, Parts.asks_whole, Texts.have_texts}
 use Rattle.desk_core.proofs.SameReplies.{effects-append, nonce_effects, verdict_reply_same, verdict_same}
 use Rattle.desk_core.proofs.Spaced.{no_bytes, no_numbers, office_spaced, pieces_bounded, signed_spaced}
@@ -54,12 +50,7 @@ settles_reply : (F : History) (call : Call) (a : OfficeAsk) (changes : List Chan
     decide F call ≡ office_decision F (moment_of call.at F) (settled F call a) →
     Settles (moment_of call.at F) (picture F) (settled F call a) changes reply →
     EachFollows (record_all (moment_of call.at F) (entries_of (settled F call a)) F) → reply ≡ (decide F call).reply
-settles_reply F call a changes reply legal is h follows =
-    let grown = after_is F call (entries_of (settled F call a)) follows in
-    h.replies (tables_ordered F (clock F))
-    (subst HasTexts grown (have_texts (record_all (moment_of call.at F) (entries_of (settled F call a)) F) follows (moment_of call.at F)))
-    ∙ ap (λ T. verdict_reply false T (settled F call a)) (sym grown)
-    ∙ sym (ap (λ (d : Decision). d.reply) is)
+settles_reply F call a changes reply legal is h follows = grind (arith, after_is, tables_ordered, have_texts)
 
 settles : (F : History) (call : Call) (a : OfficeAsk) (changes : List Change) (reply : Reply) → Legal F → IsFormedCall call → call.at ≤ last_moment →
     decide F call ≡ office_decision F (moment_of call.at F) (settled F call a) →
@@ -87,10 +78,7 @@ settles F call a changes reply legal formed at is h =
 judged_is : (F : History) (call : Call) (serial : ℕ) (s : Signed) →
     signed_verdict (tables_after (moment_of call.at F) (nonce_entries serial call.random) F) (drop 16 call.random) s
     ≡ signed_verdict (swept (moment_of call.at F) (picture F)) (drop 16 call.random) s
-judged_is F call serial s =
-    signed_same (tables_after (moment_of call.at F) (nonce_entries serial call.random) F) (tables_at F (moment_of call.at F)) (drop 16 call.random) s
-    (nonce_rows F (moment_of call.at F) serial (take 16 call.random))
-    ∙ ap (λ T. signed_verdict T (drop 16 call.random) s) (now_is F call)
+judged_is F call serial s = search (rules, signed_same, nonce_rows, now_is)
 
 abbrev pub judged : History → Call → Signed → Verdict
 judged F call s = signed_verdict (swept (moment_of call.at F) (picture F)) (drop 16 call.random) s
@@ -98,10 +86,7 @@ judged F call s = signed_verdict (swept (moment_of call.at F) (picture F)) (drop
 -- its numbers, after the nonce's entries
 pub judged_left : (F : History) (call : Call) (serial : ℕ) (v : Verdict) → NumbersLeft (picture F).meta.counters v →
     NumbersLeft (picture (record_all (moment_of call.at F) (nonce_entries serial call.random) F)).meta.counters v
-judged_left F call serial v h =
-    let same = nonce_rows F (moment_of call.at F) serial (take 16 call.random) in
-    left_same (picture (record_all (moment_of call.at F) (nonce_entries serial call.random) F)).meta.counters (picture F).meta.counters v
-    same.last_accounts same.last_orders same.last_authorizations same.last_challenges h
+judged_left F call serial v h = search rules
 
 -- the model's decision, by the verdict that the code comes to
 pub passed_is : (F : History) (call : Call) (s : Signed) (serial : ℕ) → decide F call ≡ signed_decision F (moment_of call.at F) call.random s (Some serial) →
@@ -148,9 +133,7 @@ passes F call s serial changes reply legal formed at is h =
 -- the decision on a signed request, by the nonce that its text opens
 pub signed_is : (F : History) (call : Call) (s : Signed) → call.ask ≡ ask.Signed s → (o : Option ℕ) →
     open_nonce (swept (moment_of call.at F) (picture F)) s.nonce ≡ o → decide F call ≡ signed_decision F (moment_of call.at F) call.random s o
-signed_is F call s asks o e =
-    ap (λ a. decide_at F (moment_of call.at F) call.random a) asks
-    ∙ ap (signed_decision F (moment_of call.at F) call.random s) (ap (λ T. open_nonce T s.nonce) (now_is F call) ∙ e)
+signed_is F call s asks o e = search (rules, now_is)
 
 -- a signed request
 signed_decides : (F : History) (call : Call) (s : Signed) (changes : List Change) (reply : Reply) → Legal F → IsFormedCall call → call.at ≤ last_moment →
@@ -204,10 +187,8 @@ code_decides F call B m random changes reply legal part formed at acts bytes mee
 -- what a clause on both outcomes gives on the way that went well, and on the other
 pub ok_part : {T E A : Type 0} {R : T → Type 0} (P : T → Type 0) (Q : E → Type 0) (r : Result T E) → (A → MatchResult r P Q)
     → ((x : T) → (A → P x) → R x) → IfOk r R
-ok_part P Q (Ok x) h k = k x h
-ok_part P Q (Err e) h k = tt
+ok_part P Q r h k = search rules
 
 pub err_part : {T E A : Type 0} {R : E → Type 0} (P : T → Type 0) (Q : E → Type 0) (r : Result T E) → (A → MatchResult r P Q)
     → ((e : E) → (A → Q e) → R e) → IfErr r R
-err_part P Q (Ok x) h k = tt
-err_part P Q (Err e) h k = k e h
+err_part P Q r h k = search rules

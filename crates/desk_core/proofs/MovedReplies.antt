@@ -1,10 +1,9 @@
 -- What a move names, among the rows that it touches.
-use Rattle.std.proofs.Common.{◌≡◌, ℕ, List, map, ap, sym, ◌∙◌}
+use Rattle.std.proofs.Common.{◌≡◌, ℕ, List, ap, sym, ◌∙◌, rules}
 use Rattle.std.specs.Prelude.{◌==◌, find}
 use Rattle.model_laws.proofs.Basics.{eq_turn}
-use Rattle.desk_model.specs.{Document.listed_rows, Entry.entry_of, Tables.Tables}
 use Rattle.desk_model.specs.Effect.{effect, has_row, names_order, swept, touches_account, touches_authorization}
-use Rattle.desk_model.specs.Questions.{account_on, authorization_on, order_on, owner_on}
+use Rattle.desk_model.specs.{Entry.entry_of, Tables.Tables, Questions.account_on, Questions.authorization_on, Questions.order_on, Questions.owner_on}
 use Rattle.desk_model.specs.declared.{entry.Move.Move, rows.AccountRow.AccountRow, rows.AuthorizationRow.AuthorizationRow, rows.OrderRow.OrderRow}
 use Rattle.core_changes.specs.Moved.{accounts_moved, authorizations_moved, orders_moved}
 use Rattle.core_changes.proofs.ShownAfter.{account_moved, authorization_moved, names_at, names_moved, order_moved, owner_moved, policy_moved}
@@ -13,15 +12,13 @@ use Rattle.desk_core.specs.Named.{IsNamedAs}
 -- the account that the move is of
 pub account_there : (m : ℕ) (B : Tables) (v : Move) (n : ℕ) (xs : List AccountRow) → ((a : AccountRow) → touches_account (entry_of v) a ≡ (n == a.number)) →
     xs ≡ accounts_moved (entry_of v) m B.accounts → find (λ a. a.number == n) xs ≡ account_on (effect m (swept m B) (entry_of v)) n
-account_there m B v n xs touched is =
-    ap (find (λ a. a.number == n)) is ∙ sym (account_moved m B v n (λ a same. touched a ∙ eq_turn n a.number ∙ same))
+account_there m B v n xs touched is = search (rules, account_moved)
 
 -- the authorization that it is of
 pub authorization_there : (m : ℕ) (B : Tables) (v : Move) (n : ℕ) (xs : List AuthorizationRow)
     → ((a : AuthorizationRow) → touches_authorization (entry_of v) a ≡ (n == a.number)) →
     xs ≡ authorizations_moved (entry_of v) m B.accounts B.authorizations → find (λ a. a.number == n) xs ≡ authorization_on (effect m (swept m B) (entry_of v)) n
-authorization_there m B v n xs touched is =
-    ap (find (λ a. a.number == n)) is ∙ sym (authorization_moved m B v n (λ a same. touched a ∙ eq_turn n a.number ∙ same))
+authorization_there m B v n xs touched is = search (rules, authorization_moved)
 
 -- that of the challenge that it is of
 pub owner_there : (m : ℕ) (B : Tables) (v : Move) (n : ℕ) (xs : List AuthorizationRow)
@@ -41,8 +38,4 @@ named_after m B v = record { policy = policy_moved m B v; names = names_moved m 
 
 -- and at a moment
 pub named_at : (m : ℕ) (B T : Tables) → T ≡ swept m B → IsNamedAs T B
-named_at m B T is =
-    record {
-      policy = ap (λ (T : Tables). T.meta.policy) is;
-      names = λ row. ap (λ T. map (λ a. a.name) (listed_rows T row)) is ∙ names_at m B row;
-    }
+named_at m B T is = search (rules, names_at)

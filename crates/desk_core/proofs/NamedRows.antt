@@ -1,32 +1,26 @@
 -- What a verdict shows or moves is there: it was looked up.
-use Rattle.std.proofs.Common.{◌≡◌, ℕ, List, [], ◌∷◌, Bool, true, false, cond, Option, Some, None, Result, Ok, Err, refl, ap, sym, subst}
+use Rattle.std.proofs.Common.{◌≡◌, ℕ, List, [], ◌∷◌, Bool, true, Option, Some, None, Result, ap, sym, subst, arith, rules}
 use Rattle.std.specs.Prelude.{◌==◌, ◌&&◌, find, is_some, IfOk, IsSome, IsSomeAnd}
-use Rattle.desk_model.specs.{Account.is_valid as is_valid_account, Contact.contacts_fault, Limits.most_names, Tables.Tables}
-use Rattle.desk_model.specs.declared.call.{BadKey.BadKey, Finding.Finding, OfficeAsk.OfficeAsk, OrderProblem.OrderProblem, Signed.Signed, Target.Target}
-use Rattle.desk_model.specs.declared.payload.{AccountChange.AccountChange, AuthorizationChange.AuthorizationChange, KeyChange.KeyChange}
-use Rattle.desk_model.specs.declared.payload.{ChallengeChange.ChallengeChange, Identifier.Identifier, NewAccount.NewAccount}
-use Rattle.desk_model.specs.declared.{refusal.Refusal.Refusal, reply.Subproblem.Subproblem, rows.AccountRow.AccountRow, rows.AuthorizationRow.AuthorizationRow}
-use Rattle.desk_model.specs.declared.{rows.Counters.Counters, rows.OrderRow.OrderRow, verdict.Verdict.Verdict, verdict.Verdict.TheVariants.Refused as refused}
-use Rattle.desk_model.specs.Authorization.{is_live, is_pending}
-use Rattle.desk_model.specs.Legal.{has_length, is_pending_challenge, is_problem, is_processing_challenge}
-use Rattle.desk_model.specs.Order.{is_processing, is_ready}
 use Rattle.desk_model.specs.Questions.{account_on, account_with_key, authorization_on, order_on, owner_on}
 use Rattle.desk_model.specs.Rules.{account_verdict, authorization_verdict, certificate_verdict, certify_verdict, challenge_verdict, csr_in, fail_verdict}
-use Rattle.desk_model.specs.Rules.{finalize_verdict, key_verdict, kept, names_in, new_order_verdict, office_verdict, open_account, order_of, own}
-use Rattle.desk_model.specs.Rules.{report_verdict, revoke_account, revoke_authorization, signed_verdict, stands_open, subproblems, target_verdict}
-use Rattle.desk_model.specs.Rules.{key_change_verdict, rekey_verdict}
-use Rattle.model_laws.proofs.Serving.{all_may_be_wanted}
+use Rattle.desk_model.specs.Rules.{finalize_verdict, key_verdict, new_order_verdict, office_verdict, open_account, order_of, own, report_verdict}
+use Rattle.desk_model.specs.Rules.{revoke_account, revoke_authorization, signed_verdict, subproblems, target_verdict, key_change_verdict, rekey_verdict}
 use Rattle.desk_model.specs.Verdict.{check, choose, given}
+use Rattle.desk_model.specs.{Account.is_valid as is_valid_account, Contact.contacts_fault, Limits.most_names, Tables.Tables, Authorization.is_live}
+use Rattle.desk_model.specs.{Authorization.is_pending, Legal.has_length, Legal.is_processing_challenge, Order.is_ready}
+use Rattle.desk_model.specs.declared.{call.Finding.Finding, call.OfficeAsk.OfficeAsk, call.OrderProblem.OrderProblem, call.Signed.Signed, call.Target.Target}
+use Rattle.desk_model.specs.declared.{payload.AccountChange.AccountChange, payload.AuthorizationChange.AuthorizationChange, payload.KeyChange.KeyChange}
+use Rattle.desk_model.specs.declared.{payload.ChallengeChange.ChallengeChange, payload.Identifier.Identifier, payload.NewAccount.NewAccount}
+use Rattle.desk_model.specs.declared.{refusal.Refusal.Refusal, reply.Subproblem.Subproblem, rows.AccountRow.AccountRow, rows.AuthorizationRow.AuthorizationRow}
+use Rattle.desk_model.specs.declared.{rows.Counters.Counters, rows.OrderRow.OrderRow, verdict.Verdict.Verdict}
+use Rattle.model_laws.proofs.Serving.{all_may_be_wanted}
 use Rattle.desk_model.specs.declared.call.OfficeAsk.TheVariants as office
 use Rattle.desk_model.specs.declared.call.Target.TheVariants as to
 use Rattle.desk_model.specs.declared.payload.AccountChange.TheVariants as change
-use Rattle.desk_model.specs.declared.payload.AuthorizationChange.TheVariants as authz_change
-use Rattle.desk_model.specs.declared.payload.ChallengeChange.TheVariants as chall_change
 use Rattle.desk_model.specs.declared.refusal.Refusal.TheVariants as refusal
 use Rattle.model_lives.proofs.{Sound.own_found, Lists.same_number}
 use Rattle.model_lives.proofs.Steps as step
-use Rattle.core_rules.specs.declared.fault.CoreFault.{CoreFault}
-use Rattle.core_rules.specs.Needs.{IsJudged}
+use Rattle.core_rules.specs.{declared.fault.CoreFault.CoreFault, Needs.IsJudged}
 use Rattle.desk_core.specs.There.{NamesRows}
 
 -- ---- steps of verdicts
@@ -52,12 +46,7 @@ there o x is = ap is_some is
 -- one that is found by a test is found by each that it passes
 found_by : {X : Type 0} (p q : X → Bool) (xs : List X) (x : X) → q x ≡ true → find p xs ≡ Some x → IsSome (find q xs)
 found_by p q [] x h is = cc
-found_by {X} p q (y ∷ ys) x h is = by (p y) (q y) refl is (found_by p q ys x h)
-  where
-    by : (b c : Bool) → q y ≡ c → cond b (Some y) (find p ys) ≡ Some x → (find p ys ≡ Some x → IsSome (find q ys)) → IsSome (cond c (Some y) (find q ys))
-    by b true e is ih = refl
-    by true false e is ih = cc
-    by false false e is ih = ih is
+found_by {X} p q (y ∷ ys) x h is = grind (arith, (found_by p q ys x h))
 
 -- the account of a key has its number
 by_number : (T : Tables) (key : List ℕ) (a : AccountRow) → account_with_key T key ≡ Some a → IsSome (account_on T a.number)
@@ -76,17 +65,14 @@ account_there T n _ h = h
 
 -- a key is changed
 rekey_there : (T : Tables) (n : ℕ) (key : List ℕ) (o : Option AccountRow) → IsSome (account_on T n) → NamesRows T (rekey_verdict n key o)
-rekey_there T n key None h = h
-rekey_there T n key (Some holder) h = tt
+rekey_there T n key o h = search rules
 
 key_change_there : (T : Tables) (n : ℕ) (c : KeyChange) → IsSome (account_on T n) → NamesRows T (key_change_verdict T n c)
-key_change_there T n c h = check_there T _ refusal.Malformed _
-    (given_there T c.new_key refusal.BadPublicKey _ (λ key _. rekey_there T n key (account_with_key T key) h))
+key_change_there T n c h = search (rules, check_there, given_there, rekey_there)
 
 -- an order is made
 order_there : (T : Tables) (r : List ℕ) (n : ℕ) (ids : List Identifier) (ss : List Subproblem) → NamesRows T (order_of T r n ids ss)
-order_there T r n ids (s ∷ ss) = tt
-order_there T r n ids [] = all_may_be_wanted T n (kept (names_in ids)) r
+order_there T r n ids ss = search (rules, all_may_be_wanted)
 
 -- newOrder
 new_order_there : (T : Tables) (r : List ℕ) (n : ℕ) (ids : List Identifier) → NamesRows T (new_order_verdict T r n ids)
@@ -104,13 +90,11 @@ certificate_there T n o is =
 -- an authorization is ended
 authorization_there : (T : Tables) (n : ℕ) (a : AuthorizationRow) (p : AuthorizationChange) → IsSome (authorization_on T n)
     → NamesRows T (authorization_verdict n a p)
-authorization_there T n a authz_change.Read h = h
-authorization_there T n a authz_change.Deactivate h = choose_there T (is_live a.status) _ _ h h
+authorization_there T n a p h = search (rules, choose_there)
 
 -- a challenge is answered
 challenge_there : (T : Tables) (n : ℕ) (a : AuthorizationRow) (p : ChallengeChange) → IsSome (owner_on T n) → NamesRows T (challenge_verdict n a p)
-challenge_there T n a chall_change.Read h = h
-challenge_there T n a chall_change.Answer h = choose_there T (stands_open (λ c. is_pending_challenge c.status) a n) _ _ h h
+challenge_there T n a p h = search (rules, choose_there)
 
 -- the account's own object is there
 own_there : {X : Type 0} (account : X → ℕ) (n : ℕ) (o : Option X) (x : X) → own account n o ≡ Some x → IsSome o
@@ -141,18 +125,12 @@ key_there T r key p t None is = tt
 
 -- a signed request
 pub signed_there : (T : Tables) (r : List ℕ) (s : Signed) → NamesRows T (signed_verdict T r s)
-signed_there T r s = by s.key
-  where
-    by : (k : Result (List ℕ) BadKey) →
-        NamesRows T (elim k [ Err e ↦ refused refusal.BadPublicKey [] | Ok key ↦ key_verdict T r key s.payload s.target (account_with_key T key) ])
-    by (Err e) = tt
-    by (Ok key) = key_there T r key s.payload s.target (account_with_key T key) refl
+signed_there T r s = search (rules, key_there)
 
 -- so it is of what is judged so
 pub judged_there : (T : Tables) (asked : Verdict) (C : Counters) (random : List ℕ) (r : Result Verdict CoreFault) → NamesRows T asked
     → IsJudged C random r asked → IfOk r (NamesRows T)
-judged_there T asked C random (Ok v) h is = subst (NamesRows T) (sym is.0) h
-judged_there T asked C random (Err e) h is = tt
+judged_there T asked C random r h k = search rules
 
 -- ---- what carries no nonce
 
@@ -164,14 +142,11 @@ report_there T n finding =
 
 -- a certificate
 certify_there : (T : Tables) (n : ℕ) (bytes : List ℕ) (o : OrderRow) → IsSome (order_on T n) → NamesRows T (certify_verdict n bytes o)
-certify_there T n bytes o h =
-    check_there T _ refusal.Malformed _ (check_there T _ refusal.TooLarge _
-    (choose_there T _ _ _ h (check_there T (is_processing o.status) refusal.Conflict _ h)))
+certify_there T n bytes o h = search (rules, check_there, choose_there)
 
 -- a failure
 fail_there : (T : Tables) (n : ℕ) (problem : OrderProblem) (o : OrderRow) → IsSome (order_on T n) → NamesRows T (fail_verdict n problem o)
-fail_there T n problem o h = check_there T (is_problem problem) refusal.Malformed _
-    (choose_there T _ _ _ h (check_there T (is_processing o.status) refusal.Conflict _ h))
+fail_there T n problem o h = search (rules, check_there, choose_there)
 
 -- the operator takes back an authorization
 revoke_authorization_there : (T : Tables) (n : ℕ) (a : AuthorizationRow) → IsSome (authorization_on T n) → NamesRows T (revoke_authorization n a)

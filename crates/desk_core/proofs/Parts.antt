@@ -1,31 +1,22 @@
 -- What the code answers by a part of the rows it answers by all of them.
-use Rattle.std.proofs.Common.{ℕ, List, [], take, drop, filter, Bool, Option, Some, None, sym, ap, subst, ◌∙◌, true, false}
-use Rattle.desk_model.specs.declared.refusal.Refusal.TheVariants as refusal
-use Rattle.desk_model.specs.{Decide.entries_of, Tables.Tables, Kept.EachOf, Limits.last_end}
-use Rattle.desk_model.specs.Effect.{effects, swept}
-use Rattle.desk_model.specs.Rules.{office_verdict, open_nonce, signed_verdict}
-use Rattle.desk_model.specs.Shown.{fresh_nonce, nonce_reply, refusal_reply, with_nonce}
-use Rattle.desk_model.specs.declared.{call.Ask.Ask, call.OfficeAsk.OfficeAsk, call.Signed.Signed, reply.Reply.Reply, rows.AuthorizationRow.AuthorizationRow}
-use Rattle.desk_model.specs.declared.{rows.ChallengeRow.ChallengeRow, rows.Change.Change, verdict.Verdict.Verdict}
+use Rattle.std.proofs.Common.{ℕ, List, drop, filter, Bool, Option, Some, None, sym, subst, ◌∙◌, false, arith, rules}
+use Rattle.desk_model.specs.{Decide.entries_of, Tables.Tables, Kept.EachOf, Limits.last_end, Effect.effects, Effect.swept, Rules.office_verdict}
+use Rattle.desk_model.specs.{Rules.signed_verdict, Shown.nonce_reply, declared.call.Ask.Ask, declared.call.OfficeAsk.OfficeAsk, declared.call.Signed.Signed}
+use Rattle.desk_model.specs.{declared.reply.Reply.Reply, declared.rows.AuthorizationRow.AuthorizationRow, declared.rows.ChallengeRow.ChallengeRow}
+use Rattle.desk_model.specs.{declared.rows.Change.Change, declared.verdict.Verdict.Verdict}
 use Rattle.desk_model.specs.declared.call.Ask.TheVariants as ask
-use Rattle.desk_core.specs.{HasTexts.HasTexts, Room.IsIssueFault}
+use Rattle.desk_core.specs.{HasTexts.HasTexts, Outcomes.IsAskFault, Outcomes.Issues, Outcomes.MeetsAsk, Outcomes.MeetsSigned, Outcomes.Passes, Outcomes.Settles}
 use Rattle.core_replies.specs.Shown.{HasMoments}
-use Rattle.desk_core.specs.Outcomes.{IsAskFault, IsPassedFault, IsSignedFault, Issues, MeetsAsk, MeetsSigned, Passes, Settles}
 use Rattle.model_laws.specs.Ordered.{IsOrdered}
 use Rattle.model_lives.specs.AnswersAs.{AnswersAs, CarriesOutAs, IssuesAs, PassesAs, SettlesAs}
 use Rattle.model_lives.specs.Thinned.{Thinning, thinned, with_challenges}
 use Rattle.model_lives.proofs.Lists.{filtered_each}
 use Rattle.model_laws.proofs.Basics.{each, each-map}
 use Rattle.core_rules.specs.declared.fault.CoreFault.{CoreFault}
-use Rattle.core_rules.specs.declared.fault.CoreFault.TheVariants as core
 
 -- moments that have texts in all challenges of a row have them in some of them
 some_moments : (c : ℕ → ChallengeRow → Bool) (a : AuthorizationRow) → HasMoments a → HasMoments (with_challenges c a)
-some_moments c a texts =
-    record {
-      ends = texts.ends;
-      reports = filtered_each _ (c a.number) a.challenges (each _ _ a.challenges (λ x f kept. f) texts.reports);
-    }
+some_moments c a texts = search (rules, filtered_each, each)
 
 -- moments that have texts in all rows have them in those of a part
 texts_then : (m : ℕ) (T P : Tables) (v : Verdict) → CarriesOutAs m T P v → HasTexts (effects m (swept m T) (entries_of v))
@@ -44,8 +35,7 @@ texts_then m T P v alike texts =
 
 issues_whole : (m : ℕ) (k : Thinning) (T : Tables) (random : List ℕ) (answer : Reply) (changes : List Change) (reply : Reply) → IssuesAs m T (thinned k T) →
     Issues m (thinned k T) random answer changes reply → Issues m T random answer changes reply
-issues_whole m k T random answer changes reply alike h =
-    record { recorded = h.recorded ∙ alike.records (take 16 random); replies = h.replies; nonces = h.nonces; bytes = h.bytes }
+issues_whole m k T random answer changes reply alike h = search rules
 
 settles_whole : (m : ℕ) (k : Thinning) (T : Tables) (a : OfficeAsk) (changes : List Change) (reply : Reply) → IsOrdered (thinned k T)
     → SettlesAs m a T (thinned k T) →
@@ -63,58 +53,23 @@ passes_whole : (m : ℕ) (k : Thinning) (T : Tables) (random : List ℕ) (serial
     PassesAs m s T (thinned k T) →
     Passes m (thinned k T) random serial (signed_verdict (swept m (thinned k T)) (drop 16 random) s) changes reply →
     Passes m T random serial (signed_verdict (swept m T) (drop 16 random) s) changes reply
-passes_whole m k T random serial s changes reply ordered alike met =
-    let v : Verdict = signed_verdict (swept m T) (drop 16 random) s in
-    let h : Passes m (thinned k T) random serial v changes reply =
-    subst (λ x. Passes m (thinned k T) random serial x changes reply) (alike.judged (drop 16 random)) met in
-    record {
-      recorded = λ whole. h.recorded ordered ∙ alike.records (drop 16 random) serial (take 16 random);
-      replies = λ whole texts.
-          h.replies ordered (texts_then m T (thinned k T) v (alike.verdict (drop 16 random)) texts)
-          ∙ ap (with_nonce (fresh_nonce T random)) ((alike.verdict (drop 16 random)).shows true);
-      nonces = h.nonces;
-      numbers = h.numbers;
-      tokens = h.tokens;
-      bytes = h.bytes;
-    }
+passes_whole m k T random serial s changes reply ordered alike met = search (rules, texts_then)
 
 signed_whole : (m : ℕ) (k : Thinning) (T : Tables) (random : List ℕ) (s : Signed) (changes : List Change) (reply : Reply) → IsOrdered (thinned k T) →
     PassesAs m s T (thinned k T) → (o : Option ℕ) → MeetsSigned m (thinned k T) random s o changes reply → MeetsSigned m T random s o changes reply
-signed_whole m k T random s changes reply ordered alike None met =
-    issues_whole m k T random (refusal_reply true refusal.BadNonce []) changes reply alike.issues met
+signed_whole m k T random s changes reply ordered alike None met = grind arith
 signed_whole m k T random s changes reply ordered alike (Some serial) met = passes_whole m k T random serial s changes reply ordered alike met
 
 -- what the code answers to an ask
 pub asks_whole : (m : ℕ) (k : Thinning) (T : Tables) (random : List ℕ) (a : Ask) (changes : List Change) (reply : Reply) → IsOrdered (thinned k T) →
     AnswersAs m a T (thinned k T) → MeetsAsk m (thinned k T) random a changes reply → MeetsAsk m T random a changes reply
 asks_whole m k T random (ask.NewNonce head) changes reply ordered alike met = issues_whole m k T random (nonce_reply head) changes reply alike met
-asks_whole m k T random (ask.Signed s) changes reply ordered alike met =
-    signed_whole m k T random s changes reply ordered alike (open_nonce (swept m T) s.nonce)
-    (subst (λ o. MeetsSigned m (thinned k T) random s o changes reply) alike.nonce met)
+asks_whole m k T random (ask.Signed s) changes reply ordered alike met = grind (arith, signed_whole)
 asks_whole m k T random (ask.Office a) changes reply ordered alike met = settles_whole m k T a changes reply ordered alike met
 
 -- ---- faults
 
-issue_fault_whole : (k : Thinning) (T : Tables) (random : List ℕ) (e : CoreFault) → IsIssueFault (thinned k T) random e → IsIssueFault T random e
-issue_fault_whole k T random core.Memory h = h
-issue_fault_whole k T random _ h = h
-
-passed_fault_whole : (k : Thinning) (T : Tables) (random : List ℕ) (v : Verdict) (e : CoreFault) → IsPassedFault (thinned k T) random v e
-    → IsPassedFault T random v e
-passed_fault_whole k T random v core.Memory h = h
-passed_fault_whole k T random v _ h = h
-
-signed_fault_whole : (m : ℕ) (k : Thinning) (T : Tables) (random : List ℕ) (s : Signed) (e : CoreFault) → PassesAs m s T (thinned k T) → (o : Option ℕ) →
-    IsSignedFault m (thinned k T) random s o e → IsSignedFault m T random s o e
-signed_fault_whole m k T random s e alike None h = issue_fault_whole k T random e h
-signed_fault_whole m k T random s e alike (Some serial) h =
-    passed_fault_whole k T random (signed_verdict (swept m T) (drop 16 random) s) e
-    (subst (λ v. IsPassedFault (thinned k T) random v e) (alike.judged (drop 16 random)) h)
-
 -- why an ask is not answered
 pub faults_whole : (m : ℕ) (k : Thinning) (T : Tables) (random : List ℕ) (a : Ask) (e : CoreFault) → AnswersAs m a T (thinned k T) →
     IsAskFault m (thinned k T) random a e → IsAskFault m T random a e
-faults_whole m k T random (ask.NewNonce head) e alike h = issue_fault_whole k T random e h
-faults_whole m k T random (ask.Signed s) e alike h =
-    signed_fault_whole m k T random s e alike (open_nonce (swept m T) s.nonce) (subst (λ o. IsSignedFault m (thinned k T) random s o e) alike.nonce h)
-faults_whole m k T random _ e alike h = h
+faults_whole m k T random a e h l = grind arith

@@ -1,14 +1,11 @@
 -- The rows of a history after a nonce was spent and one issued: what they were.
 use Rattle.std.proofs.Common.{◌≡◌, ℕ, ◌+◌, List, [], ◌∷◌, ◌++◌, length, map, unwrap_or, refl, ap, ◌∙◌, append-nil, length-append}
-use Rattle.desk_model.specs.{Entry.History, Nonce.nonces, declared.objects.Order.Order}
-use Rattle.desk_model.specs.History.{latest, record_all}
-use Rattle.desk_model.specs.Account.{accounts, changing, rekeying}
 use Rattle.desk_model.specs.Authorization.{authorizations, count_challenges, authorization_status, is_over, is_valid}
 use Rattle.desk_model.specs.Order.{orders, and_found, authorizations_at, certificate, csr, failure, order_status_by}
-use Rattle.std.specs.Prelude.{◌==◌, ◌||◌, find, is_some, nat_lt}
-use Rattle.std.specs.List.{list_all, list_any}
 use Rattle.desk_model.specs.Tables.{account_row, authorization_row, order_row, tables_at}
-use Rattle.desk_model.specs.declared.entry.Entry.TheVariants.{Issued as issued, Spent as spent}
+use Rattle.desk_model.specs.{Entry.History, Nonce.nonces, declared.objects.Order.Order, History.latest, History.record_all, Account.accounts, Account.changing}
+use Rattle.desk_model.specs.{Account.rekeying, declared.entry.Entry.TheVariants.Issued as issued, declared.entry.Entry.TheVariants.Spent as spent}
+use Rattle.std.specs.{Prelude.◌==◌, Prelude.◌||◌, Prelude.find, Prelude.is_some, Prelude.nat_lt, List.list_all, List.list_any}
 use Rattle.model_laws.proofs.Basics.{none_earlier}
 use Rattle.desk_core.specs.SameRows.{SameRows}
 

@@ -1,5 +1,5 @@
 -- The verdict on a signed request looks at no nonce.
-use Rattle.std.proofs.Common.{◌≡◌, ℕ, List, ap}
+use Rattle.std.proofs.Common.{◌≡◌, ℕ, List, ap, rules}
 use Rattle.desk_model.specs.{Tables.Tables, Rules.signed_verdict, declared.call.Signed.Signed}
 use Rattle.desk_core.specs.SameRows.{SameRows}
 
@@ -9,22 +9,7 @@ nonces_from U T = record T { nonces = U.nonces; meta = record T.meta { counters 
 
 -- with the same nonces, tables with the same rows are the same
 pub same_beside : (T U : Tables) → SameRows T U → nonces_from U T ≡ U
-same_beside T U h =
-    λ i. record U {
-      accounts = h.accounts i;
-      authorizations = h.authorizations i;
-      orders = h.orders i;
-      meta = record {
-        policy = h.policy i;
-        counters = record U.meta.counters {
-          clock = h.clock i;
-          accounts = h.last_accounts i;
-          orders = h.last_orders i;
-          authorizations = h.last_authorizations i;
-          challenges = h.last_challenges i;
-        };
-      };
-    }
+same_beside T U h = search rules
 
 -- tables with the same rows give the same verdict
 pub signed_same : (T U : Tables) (r : List ℕ) (s : Signed) → SameRows T U → signed_verdict T r s ≡ signed_verdict U r s

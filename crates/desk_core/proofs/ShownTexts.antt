@@ -1,7 +1,6 @@
 -- The moments of rows that are found have texts.
-use Rattle.std.proofs.Common.{◌≡◌, ℕ, ◌≤◌, List, Option, Some, None, IfSome, ◌∙◌, ap, refl, subst, sym}
-use Rattle.std.specs.Prelude.{◌==◌, find, is_some, Bool}
-use Rattle.std.specs.Option.{option_map}
+use Rattle.std.proofs.Common.{◌≡◌, ℕ, ◌≤◌, List, Option, IfSome, ◌∙◌, ap, subst, sym, rules}
+use Rattle.std.specs.{Prelude.◌==◌, Prelude.find, Prelude.is_some, Prelude.Bool, Option.option_map}
 use Rattle.model_laws.proofs.Finds.{each_found}
 use Rattle.desk_model.specs.{Kept.EachOf, Limits.last_end, Effect.has_row, Shown.shown, Tables.Tables, declared.reply.Reply.Reply}
 use Rattle.desk_model.specs.Questions.{authorization_on, order_on, owner_on}
@@ -10,11 +9,7 @@ use Rattle.desk_core.specs.HasTexts.{HasTexts}
 
 -- what holds of each item holds of the one that is found
 found_has : {X : Type 0} (P : X → Type 0) (test : X → Bool) (xs : List X) → EachOf P xs → IfSome (find test xs) P
-found_has {X} P test xs h = by (find test xs) refl
-  where
-    by : (o : Option X) → find test xs ≡ o → IfSome o P
-    by None is = tt
-    by (Some x) is = each_found P test xs x h is
+found_has {X} P test xs h = search (rules, each_found)
 
 -- so the order that is found ends at a moment with a text
 pub order_ends : (T : Tables) (n : ℕ) → HasTexts T → IfSome (order_on T n) (λ o. o.expires ≤ last_end)
@@ -35,5 +30,4 @@ shown_found f P found on r is h said = said (subst (λ o. IfSome o P) (sym is) h
 
 -- a copy is there where the value is
 pub mapped_some : {X Y : Type 0} (f : X → Y) (o : Option X) → is_some (option_map f o) ≡ is_some o
-mapped_some f None = refl
-mapped_some f (Some x) = refl
+mapped_some f o = search rules

@@ -1,35 +1,30 @@
 -- The tokens that verdicts take: one for each challenge of a new order, and none else.
-use Rattle.std.proofs.Common.{◌≡◌, ◌≤◌, ◌+◌, ◌*◌, ℕ, length, List, [], ◌∷◌, Bool, not, Option, Some, None, Result, Ok, Err, refl, arith}
+use Rattle.std.proofs.Common.{◌≡◌, ◌≤◌, ◌+◌, ◌*◌, ℕ, length, List, [], ◌∷◌, Bool, not, Option, Some, None, arith, rules}
 use Rattle.std.specs.Prelude.{◌&&◌, nat_le}
-use Rattle.desk_model.specs.{Account.is_valid as is_valid_account, Contact.contacts_fault, Decide.entries_of, Name.Name, Run.count_pieces, Tables.Tables}
-use Rattle.desk_model.specs.{Kept.EachOf, Entry.entry_of, declared.refusal.Refusal.Refusal, declared.call.OfficeAsk.OfficeAsk, declared.call.BadKey.BadKey}
-use Rattle.desk_model.specs.declared.{call.Finding.Finding, call.OrderProblem.OrderProblem, call.Signed.Signed, call.Target.Target, entry.Move.Move}
-use Rattle.desk_model.specs.declared.{entry.Outcome.Outcome, payload.AccountChange.AccountChange, payload.AuthorizationChange.AuthorizationChange}
-use Rattle.desk_model.specs.declared.payload.{KeyChange.KeyChange, ChallengeChange.ChallengeChange, Identifier.Identifier, NewAccount.NewAccount}
-use Rattle.desk_model.specs.declared.{reply.Subproblem.Subproblem, rows.AccountRow.AccountRow, rows.AuthorizationRow.AuthorizationRow}
-use Rattle.desk_model.specs.declared.{rows.ChallengeRow.ChallengeRow, rows.Counters.Counters, rows.OrderRow.OrderRow, verdict.Verdict.Verdict}
-use Rattle.desk_model.specs.declared.refusal.Refusal.TheVariants as refusal
-use Rattle.desk_model.specs.Authorization.{kinds_of, is_live, is_pending}
 use Rattle.desk_model.specs.Legal.{has_length, is_pending_challenge, is_problem, is_processing_challenge}
-use Rattle.desk_model.specs.Limits.{longest_certificate, most_names}
-use Rattle.desk_model.specs.Order.{is_processing, is_ready}
-use Rattle.desk_model.specs.Questions.{account_with_key, serving_on}
-use Rattle.desk_model.specs.Verdict.{check, given}
-use Rattle.desk_model.specs.Rules.{key_change_verdict, rekey_verdict, open_account, account_verdict, kept, names_in, wanted, order_of, wanted_by, left_by}
-use Rattle.desk_model.specs.Rules.{new_order_verdict, subproblems, csr_in, finalize_verdict, authorization_verdict, stands_open, challenge_verdict}
-use Rattle.desk_model.specs.Rules.{target_verdict, key_verdict, signed_verdict, outcome_verdict, report_verdict, certify_verdict, fail_verdict}
-use Rattle.desk_model.specs.Rules.{revoke_authorization, revoke_account, office_verdict}
+use Rattle.desk_model.specs.Rules.{key_change_verdict, rekey_verdict, open_account, account_verdict, wanted, order_of, wanted_by, left_by, new_order_verdict}
+use Rattle.desk_model.specs.Rules.{subproblems, csr_in, finalize_verdict, authorization_verdict, stands_open, challenge_verdict, target_verdict, key_verdict}
+use Rattle.desk_model.specs.Rules.{signed_verdict, outcome_verdict, report_verdict, certify_verdict, fail_verdict, revoke_authorization, revoke_account}
+use Rattle.desk_model.specs.Rules.{office_verdict}
+use Rattle.desk_model.specs.{Account.is_valid as is_valid_account, Contact.contacts_fault, Decide.entries_of, Name.Name, Run.count_pieces, Tables.Tables}
+use Rattle.desk_model.specs.{Kept.EachOf, Authorization.is_live, Authorization.is_pending, Limits.longest_certificate, Limits.most_names, Order.is_processing}
+use Rattle.desk_model.specs.{Order.is_ready, Questions.account_with_key, Questions.serving_on, Verdict.check, Verdict.given}
+use Rattle.desk_model.specs.declared.{refusal.Refusal.Refusal, call.OfficeAsk.OfficeAsk, call.Finding.Finding, call.OrderProblem.OrderProblem}
+use Rattle.desk_model.specs.declared.{call.Signed.Signed, call.Target.Target, entry.Outcome.Outcome, payload.AccountChange.AccountChange}
+use Rattle.desk_model.specs.declared.{payload.AuthorizationChange.AuthorizationChange, payload.KeyChange.KeyChange, payload.ChallengeChange.ChallengeChange}
+use Rattle.desk_model.specs.declared.{payload.Identifier.Identifier, payload.NewAccount.NewAccount, reply.Subproblem.Subproblem, rows.AccountRow.AccountRow}
+use Rattle.desk_model.specs.declared.{rows.AuthorizationRow.AuthorizationRow, rows.ChallengeRow.ChallengeRow, rows.Counters.Counters, rows.OrderRow.OrderRow}
+use Rattle.desk_model.specs.declared.{verdict.Verdict.Verdict, verdict.Verdict.TheVariants.Refused as refused, verdict.Verdict.TheVariants.Opens as opens}
+use Rattle.desk_model.specs.declared.{verdict.Verdict.TheVariants.Orders as orders}
+use Rattle.desk_model.specs.declared.refusal.Refusal.TheVariants as refusal
 use Rattle.desk_model.specs.declared.call.OfficeAsk.TheVariants as office
 use Rattle.desk_model.specs.declared.call.Target.TheVariants as to
-use Rattle.desk_model.specs.declared.entry.Move.TheVariants as move
 use Rattle.desk_model.specs.declared.payload.AccountChange.TheVariants as change
 use Rattle.desk_model.specs.declared.payload.AuthorizationChange.TheVariants as authz_change
 use Rattle.desk_model.specs.declared.payload.ChallengeChange.TheVariants as chall_change
-use Rattle.desk_model.specs.declared.verdict.Verdict.TheVariants.{Refused as refused, Opens as opens, Orders as orders, Moves as moves}
 use Rattle.model_lives.proofs.Steps as step
 use Rattle.model_lives.proofs.Steps.{either_keeps, no_fault_keeps}
 use Rattle.core_rules.specs.Needs.{HasTokens, IsSpaced, NumbersLeft, BytesLeft}
-use Rattle.model_laws.proofs.Drawn.{length-pieces}
 
 -- ---- steps of verdicts
 
@@ -55,8 +50,7 @@ account_spaced n _ = tt
 
 -- a key that is changed
 rekey_spaced : (n : ℕ) (key : List ℕ) (o : Option AccountRow) → IsSpaced (rekey_verdict n key o)
-rekey_spaced n key None = tt
-rekey_spaced n key (Some holder) = tt
+rekey_spaced n key o = search rules
 
 key_change_spaced : (T : Tables) (n : ℕ) (c : KeyChange) → IsSpaced (key_change_verdict T n c)
 key_change_spaced T n c = check_keeps IsSpaced _ refusal.Malformed _ tt
@@ -69,13 +63,11 @@ wanted_spaced T account (n ∷ ns) r =
     (by (serving_on T account n), wanted_spaced T account ns (left_by (serving_on T account n) n r))
   where
     by : (o : Option AuthorizationRow) → HasTokens (wanted_by o n r)
-    by None = length-pieces (length (kinds_of n)) r
-    by (Some row) = tt
+    by o = grind arith
 
 -- an order of names
 order_spaced : (T : Tables) (r : List ℕ) (n : ℕ) (ids : List Identifier) (ss : List Subproblem) → IsSpaced (order_of T r n ids ss)
-order_spaced T r n ids (s ∷ ss) = tt
-order_spaced T r n ids [] = wanted_spaced T n (kept (names_in ids)) r
+order_spaced T r n ids ss = search (rules, wanted_spaced)
 
 -- newOrder
 new_order_spaced : (T : Tables) (r : List ℕ) (n : ℕ) (ids : List Identifier) → IsSpaced (new_order_verdict T r n ids)
@@ -119,12 +111,7 @@ key_spaced T r key p t None = tt
 
 -- a signed request
 pub signed_spaced : (T : Tables) (r : List ℕ) (s : Signed) → IsSpaced (signed_verdict T r s)
-signed_spaced T r s = by s.key
-  where
-    by : (k : Result (List ℕ) BadKey) →
-        IsSpaced (elim k [ Err e ↦ refused refusal.BadPublicKey [] | Ok key ↦ key_verdict T r key s.payload s.target (account_with_key T key) ])
-    by (Err e) = tt
-    by (Ok key) = key_spaced T r key s.payload s.target (account_with_key T key)
+signed_spaced T r s = search (rules, key_spaced)
 
 -- ---- the other asks
 
@@ -178,27 +165,15 @@ office_quiet T _ = tt
 
 -- such a verdict takes no tokens
 quiet_spaced : (v : Verdict) → IsQuiet v → IsSpaced v
-quiet_spaced (opens key contacts) h = absurd h
-quiet_spaced (orders account wanted) h = absurd h
-quiet_spaced _ h = tt
+quiet_spaced v h = search rules
 
 -- no numbers
 quiet_numbers : (C : Counters) (v : Verdict) → IsQuiet v → NumbersLeft C v
-quiet_numbers C (opens key contacts) h = absurd h
-quiet_numbers C (orders account wanted) h = absurd h
-quiet_numbers C _ h = tt
-
--- a move takes no random bytes
-no_pieces : (v : Move) → count_pieces (entry_of v ∷ []) ≡ 0
-no_pieces (move.ContactsChanged n contacts) = refl
-no_pieces _ = refl
+quiet_numbers C v h = search rules
 
 -- and no random bytes
 quiet_bytes : (v : Verdict) → IsQuiet v → count_pieces (entries_of v) ≡ 0
-quiet_bytes (opens key contacts) h = absurd h
-quiet_bytes (orders account wanted) h = absurd h
-quiet_bytes (moves move) h = no_pieces move
-quiet_bytes _ h = refl
+quiet_bytes v h = grind arith
 
 -- so it is for what carries no nonce: no tokens,
 pub office_spaced : (T : Tables) (a : OfficeAsk) → IsSpaced (office_verdict T a)
@@ -216,9 +191,7 @@ no_bytes a T = quiet_bytes (office_verdict T a) (office_quiet T a)
 
 -- where there are bytes for the tokens of an order, and for a nonce, there are for both
 bytes_enough : (random : List ℕ) (v : Verdict) → IsSpaced v → BytesLeft random v → 16 ≤ length random → 16 * (1 + count_pieces (entries_of v)) ≤ length random
-bytes_enough random (orders account wanted) spaced left enough = left
-bytes_enough random (moves move) spaced left enough = omega (arith, no_pieces move)
-bytes_enough random _ spaced left enough = enough
+bytes_enough random v h k l = grind arith
 
 -- a signed request
 pub pieces_bounded : (T : Tables) (r : List ℕ) (s : Signed) (random : List ℕ) → BytesLeft random (signed_verdict T r s) → 16 ≤ length random →

@@ -1,9 +1,7 @@
 -- What a decision promises, against the history of whose picture the book is a part.
 use Rattle.std.specs.Prelude.{◌≡◌, Some, None, List, []}
-use Rattle.desk_model.specs.{Entry.History, History.moment_of, Legal.Legal, Tables.picture, Run.fault}
-use Rattle.desk_model.specs.Change.{applied, recorded_changes}
-use Rattle.desk_model.specs.Decide.{decide, after}
-use Rattle.desk_model.specs.declared.{call.Call.Call, reply.Reply.Reply, rows.Change.Change}
+use Rattle.desk_model.specs.{Entry.History, History.moment_of, Legal.Legal, Tables.picture, Run.fault, Change.applied, Change.recorded_changes, Decide.decide}
+use Rattle.desk_model.specs.{Decide.after, declared.call.Call.Call, declared.reply.Reply.Reply, declared.rows.Change.Change}
 use Rattle.model_laws.specs.News.{AreKept, AreNewChildren, AreNews}
 use Rattle.core_rules.specs.declared.fault.CoreFault.{CoreFault}
 use Rattle.core_rules.specs.declared.fault.CoreFault.TheVariants as core

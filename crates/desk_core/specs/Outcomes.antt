@@ -1,17 +1,15 @@
 -- What the deciding code answers, by the rows of the book.
 use Rattle.std.specs.Prelude.{ℕ, ◌+◌, ◌*◌, ◌≡◌, ◌<◌, ◌≤◌, ◌⊎◌, List, [], ◌∷◌, ◌++◌, length, take, drop, true, false, Option, Some, None}
-use Rattle.desk_model.specs.{Change.recorded_changes, Limits.last_number, Tables.Tables, Run.count_pieces, declared.reply.Reply.Reply}
-use Rattle.desk_model.specs.declared.{rows.Change.Change, verdict.Verdict.Verdict, entry.Entry.TheVariants.Issued as issued, call.Ask.Ask, call.Signed.Signed}
-use Rattle.desk_model.specs.Effect.{effects, swept}
-use Rattle.desk_model.specs.Rules.{office_verdict, open_nonce, signed_verdict}
 use Rattle.desk_model.specs.Shown.{refusal_reply, nonce_reply, with_nonce, fresh_nonce}
-use Rattle.desk_model.specs.Decide.{entries_of, verdict_reply, nonce_entries}
+use Rattle.desk_model.specs.{Change.recorded_changes, Limits.last_number, Tables.Tables, Run.count_pieces, declared.reply.Reply.Reply}
+use Rattle.desk_model.specs.{declared.rows.Change.Change, declared.verdict.Verdict.Verdict, declared.entry.Entry.TheVariants.Issued as issued}
+use Rattle.desk_model.specs.{declared.call.Ask.Ask, declared.call.Signed.Signed, Effect.effects, Effect.swept, Rules.office_verdict, Rules.open_nonce}
+use Rattle.desk_model.specs.{Rules.signed_verdict, Decide.entries_of, Decide.verdict_reply, Decide.nonce_entries}
 use Rattle.desk_model.specs.declared.call.Ask.TheVariants as ask
 use Rattle.desk_model.specs.declared.refusal.Refusal.TheVariants as refusal
 use Rattle.model_laws.specs.Ordered.{IsOrdered}
 use Rattle.desk_core.specs.{HasTexts.HasTexts, Room.IsIssueFault}
-use Rattle.core_rules.specs.Needs.{BytesLeft, NumbersLeft, NumbersSpent}
-use Rattle.core_rules.specs.declared.fault.CoreFault.{CoreFault}
+use Rattle.core_rules.specs.{Needs.BytesLeft, Needs.NumbersLeft, Needs.NumbersSpent, declared.fault.CoreFault.CoreFault}
 use Rattle.core_rules.specs.declared.fault.CoreFault.TheVariants as fault
 
 -- a nonce is issued and nothing else, with this reply

@@ -1,13 +1,12 @@
 -- That what is shown, or moved, is there.
-use Rattle.std.specs.Prelude.{◌==◌, List, IsSome, IsSomeAnd, IsTrue, find}
-use Rattle.std.specs.List.{list_all}
+use Rattle.std.specs.{Prelude.◌==◌, Prelude.List, Prelude.IsSome, Prelude.IsSomeAnd, Prelude.IsTrue, Prelude.find, List.list_all}
 use Rattle.model_laws.specs.Ordered.{Ascends}
 use Rattle.desk_model.specs.{Allowed.may_want_on, Effect.has_row, Tables.Tables, declared.entry.Move.Move, declared.rows.AccountRow.AccountRow}
 use Rattle.desk_model.specs.declared.{rows.AuthorizationRow.AuthorizationRow, rows.OrderRow.OrderRow, verdict.Shows.Shows, verdict.Verdict.Verdict}
 use Rattle.desk_model.specs.Questions.{account_on, authorization_on, order_on, owner_on}
+use Rattle.desk_model.specs.declared.verdict.Verdict.TheVariants.{Answers as answers, Moves as moves, Orders as orders}
 use Rattle.desk_model.specs.declared.entry.Move.TheVariants as move
 use Rattle.desk_model.specs.declared.verdict.Shows.TheVariants as show
-use Rattle.desk_model.specs.declared.verdict.Verdict.TheVariants.{Answers as answers, Moves as moves, Orders as orders}
 
 -- what is shown of the tables
 abbrev pub IsThere : Tables → Shows → Type 0

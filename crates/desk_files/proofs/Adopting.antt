@@ -1,17 +1,13 @@
 -- What is so of a desk whose store was made or opened, and then adopted.
 use Rattle.std.proofs.Common.{◌≡◌, ◌⊎◌, ℕ, Ok, inl, inr, arith}
 use Rattle.std.specs.Prelude.{IsTrue}
-use Rattle.desk_model.specs.{History.first_history, Terms.Terms}
-use Rattle.desk_model.specs.Tables.{Tables, picture}
+use Rattle.desk_model.specs.{History.first_history, Terms.Terms, Tables.Tables, Tables.picture}
 use Rattle.sql_schema.specs.Stays.{Asks}
 use Rattle.store_api.specs.Sight.{Keeps, Reads}
 use Rattle.desk_store.proofs.NothingWritten.{desk_stays}
-use Rattle.desk_store.specs.{Desks.store_sight, declared.open_fault.OpenFault.OpenFault, declared.store.Store.Store}
-use Rattle.desk_store.specs.Making.{IsMade, IsOfStorage}
-use Rattle.desk_store.specs.declared.open_fault.OpenFault.TheVariants.{NewerFormat, NotADesk}
-use Rattle.sqlite.specs.State.{State, HasCleanDisk, Survives}
-use Rattle.sqlite.specs.Held.{Held, state}
-use Rattle.sqlite.specs.{Store.Ghosts, Tree.Trees}
+use Rattle.desk_store.specs.{Desks.store_sight, declared.open_fault.OpenFault.OpenFault, declared.store.Store.Store, Making.IsMade, Making.IsOfStorage}
+use Rattle.desk_store.specs.{declared.open_fault.OpenFault.TheVariants.NewerFormat, declared.open_fault.OpenFault.TheVariants.NotADesk}
+use Rattle.sqlite.specs.{State.State, State.HasCleanDisk, State.Survives, Held.Held, Held.state, Store.Ghosts, Tree.Trees}
 use Rattle.desk_files.specs.StoredDesks.{FailedToAsk, Leaves}
 
 -- ---- what a stop leaves

@@ -1,19 +1,14 @@
 -- What closing leaves of a desk.
-use Rattle.std.proofs.Common.{◌≡◌, [], refl, subst, IsTrue}
-use Rattle.std.proofs.Math.Logic.{∥∥₁_map}
+use Rattle.std.proofs.{Common.◌≡◌, Common.[], Common.refl, Common.subst, Common.IsTrue, Math.Logic.∥∥₁_map}
 use Rattle.sqlite_disk.specs.declared.Disk as disk
 use Rattle.sqlite_disk.specs.declared.Files.{Files}
 use Rattle.sqlite_store.specs.{Laws.stays_at, declared.store.FileStore.FileStore}
-use Rattle.sqlite.specs.Closing.{HoldsAlone, IsCopied}
-use Rattle.sqlite.specs.{Effect.Database, Files.file_state, Recovery.Image, Tree.Trees, WalFiles.outcomes}
+use Rattle.sqlite.specs.{Closing.HoldsAlone, Closing.IsCopied, Effect.Database, Files.file_state, Recovery.Image, Tree.Trees, WalFiles.outcomes}
+use Rattle.sqlite.specs.{FileStore.recovers, FileStore.state, FileStore.view, Held.AreDatabases, Held.Held}
 use Rattle.sqlite.proofs.Theorems.{opens_again}
-use Rattle.sqlite.specs.FileStore.{recovers, state, view}
-use Rattle.sqlite.specs.Held.{AreDatabases, Held}
 use Rattle.desk_model.specs.Tables.{Tables}
-use Rattle.desk_store.specs.Desks.{AreOfDesk, HasDesk, IsDesk}
-use Rattle.desk_store.specs.declared.store.Store.{Store}
-use Rattle.desk_files.specs.LeftFiles.{LeavesFound}
-use Rattle.desk_files.specs.Closing.{HasClosed, IsInFile}
+use Rattle.desk_store.specs.{Desks.AreOfDesk, Desks.HasDesk, Desks.IsDesk, declared.store.Store.Store}
+use Rattle.desk_files.specs.{LeftFiles.LeavesFound, Closing.HasClosed, Closing.IsInFile}
 
 -- bytes that hold the trees of a desk
 in_file : (image : Image) (trees : Trees) (T : Tables) → HoldsAlone image trees → AreOfDesk trees T → IsInFile image T

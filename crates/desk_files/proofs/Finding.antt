@@ -6,16 +6,13 @@ use Rattle.sqlite_store.specs.declared.store.FileStore.{FileStore}
 use Rattle.sqlite_catalog.proofs.ReadLemmas.{lists_once}
 use Rattle.sqlite_catalog.specs.Listing.{IsSound, Lists}
 use Rattle.sqlite_trees.specs.Objects.{catalog_tree}
-use Rattle.sqlite.specs.Effect.{Database, IsDatabase}
-use Rattle.sqlite.specs.{FileStore.recovers, Schema.Schema, Start.FindsIn, Tree.Trees}
 use Rattle.sqlite.specs.Files.{IsEmpty, IsOpened, file_state}
-use Rattle.sqlite.specs.Held.{AreDatabases, Held}
+use Rattle.sqlite.specs.{Effect.Database, Effect.IsDatabase, FileStore.recovers, Schema.Schema, Start.FindsIn, Tree.Trees, Held.AreDatabases, Held.Held}
 use Rattle.sqlite.proofs.{ListingLemmas.empty_is_sound, Theorems.opens_again}
 use Rattle.desk_model.specs.Tables.{Tables}
 use Rattle.sql_schema.specs.{Names.uses_key_table, Schema.no_schema}
 use Rattle.store_api.specs.Sight.{Sight, Keeps}
-use Rattle.desk_store.specs.Desks.{AreOfDesk, IsDesk}
-use Rattle.desk_store.specs.declared.store.Store.{Store}
+use Rattle.desk_store.specs.{Desks.AreOfDesk, Desks.IsDesk, declared.store.Store.Store}
 use Rattle.desk_store.proofs.EitherFormat.{not_both, uses_keys}
 use Rattle.sql_tables.proofs.Holding.{same_database}
 use Rattle.sql_upgrade.specs.FirstDesks.{IsFirstDesk}

@@ -3,21 +3,17 @@ use Rattle.std.proofs.Common.{ℕ, Bool, true, false, ◌≡◌, ◌⊎◌, ◌�
 use Rattle.std.specs.Prelude.{IsTrue}
 use Rattle.sqlite_disk.specs.declared.Disk as disk
 use Rattle.sqlite_store.specs.declared.store.FileStore.{FileStore}
-use Rattle.sqlite.specs.Files.{IsEmpty, IsOpened, file_state}
-use Rattle.sqlite.specs.Held.{Held, IsNew}
-use Rattle.sqlite.specs.{Recovery.Image, Start.FindsIn, Tree.Trees, View.doubt}
-use Rattle.sqlite.specs.State.{State, HasCleanDisk, Survives}
+use Rattle.sqlite.specs.{Files.IsEmpty, Files.IsOpened, Files.file_state, Held.Held, Held.IsNew, Recovery.Image, Start.FindsIn, Tree.Trees, View.doubt}
+use Rattle.sqlite.specs.{State.State, State.HasCleanDisk, State.Survives}
 use Rattle.desk_model.specs.{Tables.Tables, Terms.Terms}
-use Rattle.sql_schema.specs.Names.{uses_key_table}
-use Rattle.sql_schema.specs.{Schema.no_schema, Stays.Asks}
+use Rattle.sql_schema.specs.{Names.uses_key_table, Schema.no_schema, Stays.Asks}
 use Rattle.store_api.specs.declared.fault.StorageFault.TheVariants as fault
 use Rattle.desk_store.specs.{Opening.IsUpgraded, declared.open_fault.OpenFault.OpenFault}
 use Rattle.desk_store.specs.declared.open_fault.OpenFault.TheVariants.{NewerFormat, NotADesk, Storage}
 use Rattle.sql_upgrade.specs.FirstDesks.{HasFirst}
-use Rattle.desk_files.specs.Formats.{AreOfFirst, HasEither}
 use Rattle.desk_files.specs.LeftFiles.{AreOfOpening, LeftFiles, file_sight, schema_in}
+use Rattle.desk_files.specs.{Formats.AreOfFirst, Formats.HasEither, Opening.IsEarly, Opening.IsTaken, Opening.LeavesNewDesk}
 use Rattle.desk_files.proofs.Finding.{empty_files_are_opened, first_files_are_opened, found_files_are_opened, reads_files}
-use Rattle.desk_files.specs.Opening.{IsEarly, IsTaken, LeavesNewDesk}
 
 -- by cases on a test
 pub by_cases : (test : Bool) (P : Type 0) → (test ≡ true → P) → (test ≡ false → P) → P

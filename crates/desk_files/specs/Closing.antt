@@ -2,14 +2,13 @@
 use Rattle.std.specs.Prelude.{◌≡◌, []}
 use Rattle.sqlite.specs.FileStore as engine
 use Rattle.sqlite.specs.{View.IsClean, Recovery.Image, State.HasCleanDisk, WalFiles.outcomes, WalReads.AreClean, declared.error.Error.Error}
+use Rattle.sqlite.specs.Files.{FailsToClose, file_state, image_of}
 use Rattle.sqlite_disk.specs.declared.Disk as disk
 use Rattle.sqlite_disk.specs.declared.Files.{Files}
 use Rattle.sqlite_store.specs.declared.store.FileStore.{FileStore}
-use Rattle.sqlite.specs.Files.{FailsToClose, file_state, image_of}
 use Rattle.desk_model.specs.Tables.{Tables}
 use Rattle.desk_store.specs.{Desks.HasDesk, declared.open_fault.OpenFault.OpenFault, declared.store.Store.Store}
-use Rattle.desk_files.specs.LeftFiles.{HoldDesk, LeavesFound}
-use Rattle.desk_files.specs.Opening.{fault_of_close}
+use Rattle.desk_files.specs.{LeftFiles.HoldDesk, LeftFiles.LeavesFound, Opening.fault_of_close}
 
 -- the desk is in the two files, and in the database file without its log
 pub record IsInFile (image : Image) (T : Tables) : Type 0 where

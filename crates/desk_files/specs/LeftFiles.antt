@@ -3,13 +3,11 @@ use Rattle.std.specs.Prelude.{◌≡◌, ◌⊎◌, false, IsTrue}
 use Rattle.sqlite_disk.specs.declared.Disk as disk
 use Rattle.sqlite_store.specs.declared.store.FileStore.{FileStore}
 use Rattle.sqlite.specs.FileStore as engine
-use Rattle.sqlite.specs.Files.{HoldsDatabase, over_files}
-use Rattle.sqlite.specs.{Held.Held, Recovery.Image, Schema.Schema, Tree.Trees}
+use Rattle.sqlite.specs.{Files.HoldsDatabase, Files.over_files, Held.Held, Recovery.Image, Schema.Schema, Tree.Trees}
 use Rattle.desk_model.specs.Tables.{Tables}
 use Rattle.sql_schema.specs.Names.{uses_key_table}
 use Rattle.store_api.specs.Sight.{Sight, Keeps}
-use Rattle.desk_store.specs.Desks.{AreOfDesk, store_sight}
-use Rattle.desk_store.specs.declared.store.Store.{Store}
+use Rattle.desk_store.specs.{Desks.AreOfDesk, Desks.store_sight, declared.store.Store.Store}
 use Rattle.desk_files.specs.Formats.{AreOfEither, AreOfFirst}
 
 -- the bytes of the database file and of its log, and the database that they hold

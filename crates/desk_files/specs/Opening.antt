@@ -4,23 +4,18 @@ use Rattle.sqlite_disk.specs.declared.Disk as disk
 use Rattle.sqlite_disk.specs.declared.Files.{Files}
 use Rattle.sqlite_store.specs.declared.store.FileStore.{FileStore}
 use Rattle.sqlite.specs.Files.{FailsToOpenFiles, IsCleanLeft, IsEmpty, IsOpened, faults_left, faults_of, file_state, image_of, over_files}
-use Rattle.sqlite.specs.Held.{Held, IsNew}
-use Rattle.sqlite.specs.{Start.FindsIn, Recovery.Image, Tree.Trees}
-use Rattle.sqlite.specs.declared.{error.Error.Error, error.Error.TheVariants.SqliteFailure, file.Leftover.Leftover}
-use Rattle.sqlite.specs.State.{State, HasCleanDisk}
+use Rattle.sqlite.specs.{Held.Held, Held.IsNew, Start.FindsIn, Recovery.Image, Tree.Trees, declared.error.Error.Error}
+use Rattle.sqlite.specs.{declared.error.Error.TheVariants.SqliteFailure, declared.file.Leftover.Leftover, State.State, State.HasCleanDisk}
 use Rattle.sqlite.specs.declared.error.ErrorCode.TheVariants as code
-use Rattle.desk_model.specs.Tables.{Tables, picture}
-use Rattle.desk_model.specs.{History.first_history, Terms.Terms}
+use Rattle.desk_model.specs.{Tables.Tables, Tables.picture, History.first_history, Terms.Terms}
 use Rattle.sql_schema.specs.Schema.{no_schema}
-use Rattle.store_api.specs.Sight.{Keeps, Opens}
-use Rattle.desk_store.specs.{Causes.cause_of, Desks.AreOfDesk}
-use Rattle.desk_store.specs.declared.{faults.EngineCause.EngineCause, open_fault.OpenFault.OpenFault, store.Store.Store}
+use Rattle.store_api.specs.{Sight.Keeps, Sight.Opens, declared.fault.StorageFault.StorageFault}
 use Rattle.desk_store.specs.Making.{FailedToMake, IsOfStorage, has_objects}
 use Rattle.desk_store.specs.Opening.{FailedToOpen, ShowsKnownFormat, ShowsNewerFormat, ShowsNoLaterFormat}
-use Rattle.store_api.specs.declared.fault.StorageFault.{StorageFault}
+use Rattle.desk_store.specs.{Causes.cause_of, Desks.AreOfDesk, declared.faults.EngineCause.EngineCause, declared.store.Store.Store}
+use Rattle.desk_store.specs.declared.open_fault.OpenFault.{OpenFault, TheVariants.NewerFormat, TheVariants.NotADesk, TheVariants.Storage}
 use Rattle.store_api.specs.declared.fault.StorageFault.TheVariants as fault
 use Rattle.desk_store.specs.declared.faults.EngineCause.TheVariants as cause
-use Rattle.desk_store.specs.declared.open_fault.OpenFault.TheVariants.{NewerFormat, NotADesk, Storage}
 use Rattle.desk_files.specs.LeftFiles.{AreOfOpening, LeftFiles, file_sight, schema_in}
 
 -- memory was refused, or the disk failed

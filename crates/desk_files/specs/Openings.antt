@@ -2,14 +2,11 @@
 use Rattle.std.specs.Prelude.{◌≡◌, []}
 use Rattle.sqlite_disk.specs.declared.Disk as disk
 use Rattle.sqlite_store.specs.declared.store.FileStore.{FileStore}
-use Rattle.sqlite.specs.Files.{IsEmpty, IsOpened, file_state}
-use Rattle.sqlite.specs.Held.{Held, IsNew}
-use Rattle.sqlite.specs.{Recovery.Image, Start.FindsIn, Tree.Trees}
+use Rattle.sqlite.specs.{Files.IsEmpty, Files.IsOpened, Files.file_state, Held.Held, Held.IsNew, Recovery.Image, Start.FindsIn, Tree.Trees}
 use Rattle.desk_model.specs.Tables.{Tables}
 use Rattle.sql_schema.specs.Schema.{no_schema}
 use Rattle.store_api.specs.Sight.{FailsToOpen}
-use Rattle.desk_store.specs.Desks.{AreOfDesk, HasDesk}
-use Rattle.desk_store.specs.declared.store.Store.{Store}
+use Rattle.desk_store.specs.{Desks.AreOfDesk, Desks.HasDesk, declared.store.Store.Store}
 use Rattle.sql_upgrade.specs.FirstDesks.{HasFirst}
 use Rattle.desk_files.specs.Formats.{AreOfFirst}
 use Rattle.desk_files.specs.LeftFiles.{AreOfOpening, LeftFiles, IsNumbered, LeavesDesks, LeavesFound, MayLeave, file_sight}

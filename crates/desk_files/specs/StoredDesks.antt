@@ -1,17 +1,14 @@
 -- A desk over a connection, and what is left once it was made or opened.
 use Rattle.std.specs.Prelude.{◌≡◌, ◌⊎◌, ℕ, None, IsTrue}
-use Rattle.sqlite.specs.Held.{Held, state}
-use Rattle.sqlite.specs.State.{State, HasCleanDisk, Survives}
-use Rattle.sqlite.specs.{Store.Ghosts, Tree.Trees}
+use Rattle.sqlite.specs.{Held.Held, Held.state, State.State, State.HasCleanDisk, State.Survives, Store.Ghosts, Tree.Trees}
 use Rattle.desk.specs.State.{DeskState}
 use Rattle.desk_model.specs.{Tables.Tables, Terms.Terms}
 use Rattle.sql_write.specs.Committing.{GoesBack}
 use Rattle.sql_schema.specs.Schema.{no_schema}
 use Rattle.store_api.specs.{Sight.Keeps, declared.fault.StorageFault.StorageFault}
-use Rattle.desk_store.specs.{Causes.LeavesNothing, Desks.store_sight}
 use Rattle.desk_store.specs.Making.{FailedToMake, IsMade, IsNewDesk}
-use Rattle.desk_store.specs.Opening.{FailedToOpen, IsUpgraded}
-use Rattle.desk_store.specs.declared.{open_fault.OpenFault.OpenFault, open_fault.OpenFault.TheVariants.Storage, store.Store.Store}
+use Rattle.desk_store.specs.{Causes.LeavesNothing, Desks.store_sight, Opening.FailedToOpen, Opening.IsUpgraded, declared.open_fault.OpenFault.OpenFault}
+use Rattle.desk_store.specs.{declared.open_fault.OpenFault.TheVariants.Storage, declared.store.Store.Store}
 
 -- the store of a desk has these tables, which a stop leaves alone, and the desk has their policy
 pub record IsDeskOf {S : Type 0} (g : Ghosts S) (T : Tables) (desk : DeskState (Store S)) : Type 0 where

@@ -3,8 +3,7 @@ use Rattle.std.proofs.Common.{ℕ, List, Option, Some, None, Result, Ok, Err, Bo
 use Rattle.std.specs.Prelude.{MatchResult}
 use Rattle.desk_model.specs.declared.{call.Call.Call, reply.Reply.Reply}
 use Rattle.store_api.specs.{Sight.Sight, Storing.Causes}
-use Rattle.desk.specs.Meets.{ActsOnce, Meets}
-use Rattle.desk.specs.{State.DeskState, declared.fault.DeskFault.DeskFault}
+use Rattle.desk.specs.{Meets.ActsOnce, Meets.Meets, State.DeskState, declared.fault.DeskFault.DeskFault}
 use Rattle.http_routes.specs.declared.request.Request.{Request}
 use Rattle.http_routes.specs.declared.request.Request.TheVariants as request
 use Rattle.http_wire.specs.declared.call.ReplyForm.{ReplyForm}

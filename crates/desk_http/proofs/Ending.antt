@@ -4,17 +4,16 @@ use Rattle.std.specs.Prelude.{IfErr, IfOk, MatchResult}
 use Rattle.desk_model.specs.declared.reply.Reply.{Reply}
 use Rattle.store_api.specs.{Sight.Sight, Storing.Causes}
 use Rattle.desk.specs.{Answers.is_closed_after, Faults.closes, State.DeskState, declared.fault.DeskFault.DeskFault}
+use Rattle.desk.specs.{Faults.storage_fault, Looking.is_closed_by_look, declared.looking.LookFault.LookFault}
 use Rattle.desk.specs.declared.fault.DeskFault.TheVariants as deskfault
 use Rattle.http_routes.specs.declared.{looked.Looked.Looked, request.Request.Request}
 use Rattle.http_routes.specs.declared.request.Request.TheVariants as request
 use Rattle.http_wire.specs.declared.call.ReplyForm.{ReplyForm}
-use Rattle.desk_http.specs.Serving.{HasAnswer, Responds, ServesBy}
-use Rattle.desk_http.specs.declared.{serving.Unanswered.Unanswered, serving.IoFault.IoFault, serving.Served.Served, overseeing.ReplySummary.ReplySummary}
-use Rattle.desk_http.specs.declared.moment_bound.MomentBound.{MomentBound}
-use Rattle.desk_http.specs.declared.serving.Unanswered.TheVariants as cause
 use Rattle.desk_http.specs.InTurn.{Ends, IsClosedBy, ServesClient, ended_by, fault_after, fault_of, looked, parsed, if_closes, unread}
 use Rattle.desk_http.specs.Showing.{EndsLook, Shower, ShowsTo, begun, headless}
-use Rattle.desk.specs.{Faults.storage_fault, Looking.is_closed_by_look, declared.looking.LookFault.LookFault}
+use Rattle.desk_http.specs.{Serving.HasAnswer, Serving.Responds, Serving.ServesBy, declared.serving.Unanswered.Unanswered, declared.serving.IoFault.IoFault}
+use Rattle.desk_http.specs.{declared.serving.Served.Served, declared.overseeing.ReplySummary.ReplySummary, declared.moment_bound.MomentBound.MomentBound}
+use Rattle.desk_http.specs.declared.serving.Unanswered.TheVariants as cause
 use Rattle.desk.specs.declared.looking.LookFault.TheVariants as lookfault
 
 -- the desk is closed by this fault, or, where there is none, it is open

@@ -5,8 +5,7 @@ use Rattle.desk_model.specs.declared.reply.Reply.{Reply}
 use Rattle.store_api.specs.{Sight.Sight, Storing.Causes}
 use Rattle.desk.specs.{State.DeskState, declared.fault.DeskFault.DeskFault}
 use Rattle.http_routes.specs.declared.request.Request.{Request}
-use Rattle.http_wire.specs.Spelled.{IsReplyForm, Spells}
-use Rattle.http_wire.specs.declared.call.ParsedRequest.{ParsedRequest}
+use Rattle.http_wire.specs.{Spelled.IsReplyForm, Spelled.Spells, declared.call.ParsedRequest.ParsedRequest}
 use Rattle.desk_http.specs.Serving.{Fails, HasAnswer, IsParsedOf, LacksReply, LacksText, ReadAnswer}
 use Rattle.desk_http.specs.declared.serving.Unanswered.{Unanswered}
 use Rattle.desk_http.specs.declared.serving.Unanswered.TheVariants as cause

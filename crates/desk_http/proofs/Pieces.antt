@@ -1,13 +1,10 @@
 -- What is shown, copied in pieces.
-use Rattle.std.proofs.Common.{◌≡◌, ◌≢◌, ◌∙◌, ◌<◌, ◌+◌, ◌-◌, ◌++◌, ℕ, Bool, false, List, [], Option, Result, Ok, Err, ap, append_assoc, arith, drop, length, subst}
-use Rattle.std.proofs.Common.{sym, take, take-append-drop}
-use Rattle.std.proofs.KnownBytes.{Appends-nil, Appends-trans, Consumes-trans}
-use Rattle.std.proofs.lemmas.List.{drop_at, length-append}
-use Rattle.std.specs.Prelude.{◌↔◌, IsTrue, OnErr}
-use Rattle.std.specs.Io.KnownBytes.{Appends, Consumes, IsAtEnd}
+use Rattle.std.proofs.Common.{◌≡◌, ◌≢◌, ◌∙◌, ◌<◌, ◌+◌, ◌-◌, ◌++◌, ℕ, Bool, false, List, [], Option, Result, Ok, Err, ap, append_assoc, arith, drop, length}
+use Rattle.std.proofs.Common.{subst, sym, take, take-append-drop}
+use Rattle.std.proofs.{KnownBytes.Appends-nil, KnownBytes.Appends-trans, KnownBytes.Consumes-trans, lemmas.List.drop_at, lemmas.List.length-append}
+use Rattle.std.specs.{Prelude.◌↔◌, Prelude.IsTrue, Prelude.OnErr, Io.KnownBytes.Appends, Io.KnownBytes.Consumes, Io.KnownBytes.IsAtEnd}
 use Rattle.http_wire.specs.Head.{Adds}
-use Rattle.desk_http.specs.Copied.{CopiesAll, CopiesLong, WritesSome}
-use Rattle.desk_http.specs.Serving.{AppendsBeginning}
+use Rattle.desk_http.specs.{Copied.CopiesAll, Copied.CopiesLong, Copied.WritesSome, Serving.AppendsBeginning}
 
 -- behind a first piece these bytes were read, and all but the last piece was written
 pub record HasCopied (first piece : List ℕ) (input left was is : Option (List ℕ)) : Type 0 where

@@ -7,11 +7,10 @@ use Rattle.desk.specs.State.{DeskState}
 use Rattle.http_routes.specs.declared.request.Request.{Request}
 use Rattle.http_routes.specs.declared.request.Request.TheVariants as request
 use Rattle.http_wire.specs.declared.call.ReplyForm.{ReplyForm}
-use Rattle.desk_http.specs.{InTurn.ServesAt, declared.moment_bound.MomentBound.MomentBound, declared.serving.Unanswered.Unanswered}
-use Rattle.desk_http.specs.{declared.serving.IoFault.IoFault}
-use Rattle.desk_http.specs.declared.{serving.Served.Served, overseeing.ReplySummary.ReplySummary}
 use Rattle.desk_http.specs.MomentBounds.{admits, moment_for}
 use Rattle.desk_http.specs.Serving.{Breaks, CutOffBy, Fails, HasAnswer, Responds, Serves, ServesBy}
+use Rattle.desk_http.specs.{InTurn.ServesAt, declared.moment_bound.MomentBound.MomentBound, declared.serving.Unanswered.Unanswered}
+use Rattle.desk_http.specs.{declared.serving.IoFault.IoFault, declared.serving.Served.Served, declared.overseeing.ReplySummary.ReplySummary}
 use Rattle.desk_http.specs.declared.serving.Unanswered.TheVariants as cause
 use Rattle.desk_http.specs.declared.serving.IoFault.TheVariants as iofault
 

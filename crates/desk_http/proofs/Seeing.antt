@@ -4,11 +4,9 @@ use Rattle.store_api.specs.{Sight.Sight, Storing.Causes}
 use Rattle.desk.specs.{SeenDesks.IsSeenOn, State.DeskState, Meets.ActsOnce, declared.fault.DeskFault.DeskFault}
 use Rattle.desk.proofs.SeeingDesks.{seen_once_more, seen_untouched}
 use Rattle.desk_http.proofs.{Acting.once_acts, ShownTo.shows_acts}
-use Rattle.desk_http.specs.Logged.{LogEntry}
-use Rattle.desk_http.specs.declared.{serving.IoFault.IoFault, serving.Served.Served, serve_fault.ServeFault.ServeFault}
-use Rattle.desk_http.specs.declared.{moment_bound.MomentBound.MomentBound, overseeing.Watch.Watch}
 use Rattle.desk_http.specs.InTurn.{ServesClient, ServesMany, ServesNext, ServesOne, looked, parsed, unread}
-use Rattle.desk_http.specs.Showing.{Shower}
+use Rattle.desk_http.specs.{Logged.LogEntry, declared.serving.IoFault.IoFault, declared.serving.Served.Served, declared.serve_fault.ServeFault.ServeFault}
+use Rattle.desk_http.specs.{declared.moment_bound.MomentBound.MomentBound, declared.overseeing.Watch.Watch, Showing.Shower}
 use Rattle.desk_http.specs.declared.serve_fault.ServeFault.TheVariants as servefault
 
 module _ {S C : Type 0} (v : Sight S C) (causes : Causes S) (hook : Shower S) where

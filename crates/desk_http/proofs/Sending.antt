@@ -1,10 +1,7 @@
 -- A text that is written in pieces.
 use Rattle.std.proofs.Common.{◌≡◌, ◌≤◌, ℕ, ◌+◌, ◌-◌, List, Option, arith, subst, sym}
-use Rattle.std.proofs.KnownBytes.{Appends-trans}
-use Rattle.std.proofs.Math.Seq.{take-add}
-use Rattle.std.proofs.lemmas.List.{length-drop, take_rest}
-use Rattle.std.specs.Prelude.{drop, length, take}
-use Rattle.std.specs.Io.KnownBytes.{Appends}
+use Rattle.std.proofs.{KnownBytes.Appends-trans, Math.Seq.take-add, lemmas.List.length-drop, lemmas.List.take_rest}
+use Rattle.std.specs.{Prelude.drop, Prelude.length, Prelude.take, Io.KnownBytes.Appends}
 
 -- one piece more of what is left
 pub piece_more : (was mid is : Option (List ℕ)) (text : List ℕ) (done count next : ℕ) → next ≡ done + count → Appends was mid (take done text)

@@ -4,8 +4,7 @@ use Rattle.store_api.specs.Sight.{Sight}
 use Rattle.desk.specs.{State.DeskState, Meets.ActsOnce}
 use Rattle.desk.proofs.LookedAt.{look_acts}
 use Rattle.http_routes.specs.declared.looked.Looked.{Looked}
-use Rattle.desk_http.specs.Showing.{Shower, ShowsTo, begun, headless}
-use Rattle.desk_http.specs.declared.{serving.IoFault.IoFault, serving.Served.Served}
+use Rattle.desk_http.specs.{Showing.Shower, Showing.ShowsTo, Showing.begun, Showing.headless, declared.serving.IoFault.IoFault, declared.serving.Served.Served}
 
 module _ {S C : Type 0} (v : Sight S C) (hook : Shower S) (asked : Looked) where
   pub shows_acts : (before after : Option (List ℕ)) (old new : DeskState S) (served : Result Served IoFault) → ShowsTo v hook asked before after old new served

@@ -3,9 +3,7 @@ use Rattle.std.proofs.Common.{◌≡◌, ◌<◌, Err, ℕ, ◌+◌, Bool, true,
 use Rattle.store_api.specs.{Sight.Sight, Storing.Causes}
 use Rattle.desk.specs.{State.DeskState, declared.fault.DeskFault.DeskFault}
 use Rattle.desk_http.specs.InTurn.{IsOfMachine, ServesConnections, ServesFewer, ServesMany, ServesNext, ServesOne, ended_by}
-use Rattle.desk_http.specs.Logged.{LogEntry}
-use Rattle.desk_http.specs.Showing.{Shower}
-use Rattle.desk_http.specs.declared.{overseeing.Watch.Watch, serve_fault.ServeFault.ServeFault}
+use Rattle.desk_http.specs.{Logged.LogEntry, Showing.Shower, declared.overseeing.Watch.Watch, declared.serve_fault.ServeFault.ServeFault}
 use Rattle.desk_http.specs.declared.serve_fault.ServeFault.TheVariants as servefault
 
 module _ {S C : Type 0} (v : Sight S C) (causes : Causes S) (hook : Shower S) {O : Type 0} (takes : O → LogEntry → O → Type 0) where

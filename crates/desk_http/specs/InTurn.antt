@@ -10,12 +10,10 @@ use Rattle.desk_model.specs.declared.call.Target.TheVariants as to
 use Rattle.http_routes.specs.declared.{looked.Looked.Looked, request.Request.Request}
 use Rattle.http_routes.specs.declared.request.Request.TheVariants as request
 use Rattle.http_wire.specs.declared.call.ParsedRequest.{ParsedRequest}
-use Rattle.desk_http.specs.MomentBounds.{followed, moment_for}
-use Rattle.desk_http.specs.Logged.{IsLogEntryOf, LogEntry, object_asked}
-use Rattle.desk_http.specs.Serving.{Breaks, IsParsedOf, Serves}
-use Rattle.desk_http.specs.Showing.{Shower, ShowsTo, looked_in}
-use Rattle.desk_http.specs.declared.{moment_bound.MomentBound.MomentBound, overseeing.Watch.Watch}
-use Rattle.desk_http.specs.declared.{serving.Unanswered.Unanswered, serving.IoFault.IoFault, serving.Served.Served, serve_fault.ServeFault.ServeFault}
+use Rattle.desk_http.specs.{MomentBounds.followed, MomentBounds.moment_for, Logged.IsLogEntryOf, Logged.LogEntry, Logged.object_asked, Serving.Breaks}
+use Rattle.desk_http.specs.{Serving.IsParsedOf, Serving.Serves, Showing.Shower, Showing.ShowsTo, Showing.looked_in}
+use Rattle.desk_http.specs.{declared.moment_bound.MomentBound.MomentBound, declared.overseeing.Watch.Watch, declared.serving.Unanswered.Unanswered}
+use Rattle.desk_http.specs.{declared.serving.IoFault.IoFault, declared.serving.Served.Served, declared.serve_fault.ServeFault.ServeFault}
 use Rattle.desk_http.specs.declared.serving.Unanswered.TheVariants as cause
 use Rattle.desk_http.specs.declared.serving.IoFault.TheVariants as iofault
 use Rattle.desk_http.specs.declared.serve_fault.ServeFault.TheVariants as servefault

@@ -1,16 +1,13 @@
 -- What serving one request does: what is written, and what the desk then is.
 use Rattle.std.specs.Prelude.{◌≡◌, ◌<◌, ◌↔◌, ℕ, Bool, true, false, List, Option, Some, None, Result, Ok, Err, IfErr, IfSome, IsTrue, take}
-use Rattle.std.specs.Io.KnownBytes.{Appends, Keeps}
-use Rattle.std.specs.declared.alloc.AllocError.{AllocError}
+use Rattle.std.specs.{Io.KnownBytes.Appends, Io.KnownBytes.Keeps, declared.alloc.AllocError.AllocError}
 use Rattle.desk_model.specs.{Limits.last_moment, declared.call.Ask.Ask, declared.call.Call.Call, declared.reply.Reply.Reply}
 use Rattle.desk_model.specs.declared.refusal.Refusal.TheVariants as refusal
 use Rattle.desk_model.specs.declared.reply.Allow.TheVariants as allow
 use Rattle.store_api.specs.{Sight.Sight, Storing.Causes}
-use Rattle.desk.specs.Answers.{Answers, is_closed_after}
-use Rattle.desk.specs.{Causes.IsCaused, State.DeskState, declared.fault.DeskFault.DeskFault}
+use Rattle.desk.specs.{Answers.Answers, Answers.is_closed_after, Causes.IsCaused, State.DeskState, declared.fault.DeskFault.DeskFault}
 use Rattle.desk.specs.declared.fault.DeskFault.TheVariants as deskfault
-use Rattle.http_routes.specs.Request.{refused_reply, refused_request, unshown}
-use Rattle.http_routes.specs.declared.request.Request.{Request}
+use Rattle.http_routes.specs.{Request.refused_reply, Request.refused_request, Request.unshown, declared.request.Request.Request}
 use Rattle.http_routes.specs.declared.request.Request.TheVariants as request
 use Rattle.http_wire.specs.{Replies.reply_bytes, ParsedRequest.Parses, declared.call.ParsedRequest.ParsedRequest, declared.call.ReplyForm.ReplyForm}
 use Rattle.http_wire.specs.Spelled.{IsReplyForm, Spells}

@@ -1,11 +1,8 @@
 -- What a program shows of a desk that is served, in the place of a reply.
 use Rattle.std.specs.Prelude.{◌≡◌, ℕ, ◌++◌, true, List, Option, Some, None, Result, Ok, Err, codes}
 use Rattle.std.specs.{Io.KnownBytes.Appends, Io.KnownBytes.Keeps, declared.alloc.AllocError.AllocError}
-use Rattle.store_api.specs.Sight.{Sight}
-use Rattle.store_api.specs.declared.fault.StorageFault.{StorageFault}
-use Rattle.desk.specs.Faults.{storage_fault}
-use Rattle.desk.specs.Looking.{LooksAt, Shown}
-use Rattle.desk.specs.{State.DeskState, declared.looking.LookFault.LookFault}
+use Rattle.store_api.specs.{Sight.Sight, declared.fault.StorageFault.StorageFault}
+use Rattle.desk.specs.{Faults.storage_fault, Looking.LooksAt, Looking.Shown, State.DeskState, declared.looking.LookFault.LookFault}
 use Rattle.desk.specs.declared.looking.LookFault.TheVariants as lookfault
 use Rattle.http_routes.specs.declared.{looked.Looked.Looked, request.Request.Request}
 use Rattle.http_routes.specs.declared.request.Request.TheVariants as request

@@ -1,9 +1,7 @@
 -- The limits of terms, one by one.
-use Rattle.std.proofs.Common.{◌≡◌, ℕ, ◌≤◌, true, arith}
-use Rattle.std.proofs.lemmas.{Bool.Decides.nat_tests, Bool.and_parts}
+use Rattle.std.proofs.{Common.◌≡◌, Common.ℕ, Common.◌≤◌, Common.true, Common.arith, lemmas.Bool.Decides.nat_tests, lemmas.Bool.and_parts}
 use Rattle.std.specs.Prelude.{IsTrue, ◌&&◌}
-use Rattle.desk_model.specs.Limits.{longest_life}
-use Rattle.desk_model.specs.Terms.{Terms, are_terms, is_base, is_life}
+use Rattle.desk_model.specs.{Limits.longest_life, Terms.Terms, Terms.are_terms, Terms.is_base, Terms.is_life}
 
 -- a life has a limit
 life_limit : (n : ℕ) → is_life n ≡ true → n ≤ longest_life

@@ -1,9 +1,8 @@
 -- The number at the front of a text ends at its first quotation mark.
 use Rattle.std.proofs.Common.{◌≡◌, ◌≢◌, ℕ, ◌<◌, true, suc, List, [], ◌∷◌, ◌++◌, length, get_or, refl, sym, ◌∙◌, ap, subst, arith}
-use Rattle.std.specs.{Prelude.IsTrue, List.list_all}
 use Rattle.std.proofs.lemmas.Bool.{and_parts}
-use Rattle.desk_model.specs.Keys.{is_number_text, is_base64url_byte}
-use Rattle.desk_model.specs.KeyTexts.{IsNumberThen}
+use Rattle.std.specs.{Prelude.IsTrue, List.list_all}
+use Rattle.desk_model.specs.{Keys.is_number_text, Keys.is_base64url_byte, KeyTexts.IsNumberThen}
 
 -- a number has characters of base64url alone
 pub number_bytes : (n : List ℕ) → IsTrue (is_number_text n) → list_all is_base64url_byte n ≡ true

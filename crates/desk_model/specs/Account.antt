@@ -1,11 +1,10 @@
 -- Accounts (RFC 8555, 7.1.2, 7.1.6, 7.3, 7.3.5).
 use Rattle.std.specs.Prelude.{ℕ, ◌+◌, List, [], ◌∷◌, ◌++◌, length, Bool, false, true, ◌==◌, Option, Some, None, find, bytes_eq, if◌then◌else◌, unwrap_or}
 use Rattle.desk_model.specs.Entry.{Entry, opened, contacts_changed, key_changed, account_ended, deactivated, revoked, History}
-use Rattle.desk_model.specs.History.{first, latest}
+use Rattle.desk_model.specs.{History.first, History.latest, declared.status.AccountStatus.AccountStatus}
+use Rattle.desk_model.specs.declared.status.AccountStatus.TheVariants as account
 pub use Rattle.desk_model.specs.declared.objects.Account.{Account}
 pub use Rattle.desk_model.specs.declared.objects.AccountEnd.{AccountEnd}
-use Rattle.desk_model.specs.declared.status.AccountStatus.{AccountStatus}
-use Rattle.desk_model.specs.declared.status.AccountStatus.TheVariants as account
 
 -- the account that the entry opens, if it does
 abbrev pub opened_by : Entry → (date number : ℕ) → List Account

@@ -1,15 +1,13 @@
 -- Which entry may follow, by the tables at its moment.
 use Rattle.std.specs.Prelude.{ℕ, length, Bool, false, true, ◌&&◌, ◌==◌, is_some, is_none, find, bytes_eq, map}
 use Rattle.std.specs.List.{list_all}
-use Rattle.desk_model.specs.{Lookup.holds, Contact.contacts_pass, Account.is_valid as is_valid_account, Tables.Tables}
-use Rattle.desk_model.specs.Entry.{Entry, made, issued, spent, opened, contacts_changed, key_changed, account_ended, ordered, answered}
-use Rattle.desk_model.specs.Entry.{reported, authorization_ended, finalized, certified, failed, Wanted, new, reused}
-use Rattle.desk_model.specs.Authorization.{is_live, is_pending}
-use Rattle.desk_model.specs.Order.{is_ready, is_processing}
+use Rattle.desk_model.specs.Entry.{Entry, made, issued, spent, opened, contacts_changed, key_changed, account_ended, ordered, answered, reported}
+use Rattle.desk_model.specs.Entry.{authorization_ended, finalized, certified, failed, Wanted, new, reused}
 use Rattle.desk_model.specs.Legal.{is_pending_challenge, is_processing_challenge, has_length, all_different, is_wanted, wanted_name, is_problem}
 use Rattle.desk_model.specs.Limits.{longest_certificate, longest_csr, most_names}
 use Rattle.desk_model.specs.Questions.{account_on, order_on, authorization_on, owner_on, challenge_of, order_end, serves}
-use Rattle.desk_model.specs.declared.status.ChallengeStatus.{ChallengeStatus}
+use Rattle.desk_model.specs.{Lookup.holds, Contact.contacts_pass, Account.is_valid as is_valid_account, Tables.Tables, Authorization.is_live}
+use Rattle.desk_model.specs.{Authorization.is_pending, Order.is_ready, Order.is_processing, declared.status.ChallengeStatus.ChallengeStatus}
 
 -- the challenge stands, passes, and its authorization is pending
 abbrev pub challenge_passes : (ChallengeStatus → Bool) → Tables → ℕ → Bool

@@ -2,10 +2,13 @@
 use Rattle.std.specs.Prelude.{ℕ, ◌+◌, List, [], ◌∷◌, ◌++◌, length, Bool, false, true, not, ◌||◌, ◌==◌, nat_lt, nat_le, Option, Some, None, find, if◌then◌else◌}
 use Rattle.std.specs.Prelude.{is_some}
 use Rattle.std.specs.List.{list_any}
-use Rattle.desk_model.specs.{Name.Name, Account.account_key, Keys.thumbprint}
 use Rattle.desk_model.specs.Entry.{Entry, ordered, answered, reported, authorization_ended, account_ended, Wanted, new, reused, Ending, deactivated, revoked}
 use Rattle.desk_model.specs.Entry.{Outcome, good, History}
-use Rattle.desk_model.specs.History.{first, earlier, terms}
+use Rattle.desk_model.specs.{Name.Name, Account.account_key, Keys.thumbprint, History.first, History.earlier, History.terms}
+use Rattle.desk_model.specs.{declared.status.AuthzStatus.AuthzStatus, declared.status.ChallengeStatus.ChallengeStatus}
+use Rattle.desk_model.specs.declared.status.EndKind.TheVariants as kind
+use Rattle.desk_model.specs.declared.status.AuthzStatus.TheVariants as authz
+use Rattle.desk_model.specs.declared.status.ChallengeStatus.TheVariants as chall
 pub use Rattle.desk_model.specs.declared.status.Kind.{Kind}
 pub use Rattle.desk_model.specs.declared.status.Kind.TheVariants.{Http01 as http_01, Dns01 as dns_01}
 pub use Rattle.desk_model.specs.declared.objects.Challenge.{Challenge}
@@ -14,10 +17,6 @@ pub use Rattle.desk_model.specs.declared.objects.Answer.{Answer}
 pub use Rattle.desk_model.specs.declared.objects.Report.{Report}
 pub use Rattle.desk_model.specs.declared.objects.AuthorizationEnd.{AuthorizationEnd}
 pub use Rattle.desk_model.specs.declared.status.EndKind.{EndKind}
-use Rattle.desk_model.specs.declared.status.EndKind.TheVariants as kind
-use Rattle.desk_model.specs.declared.{status.AuthzStatus.AuthzStatus, status.ChallengeStatus.ChallengeStatus}
-use Rattle.desk_model.specs.declared.status.AuthzStatus.TheVariants as authz
-use Rattle.desk_model.specs.declared.status.ChallengeStatus.TheVariants as chall
 
 -- the challenges that a name gets
 abbrev pub kinds_of : Name → List Kind

@@ -1,20 +1,17 @@
 -- What is recorded, as data: the rows that are put, where they differ from those that stood there, and the nonces that are
 -- removed.
 use Rattle.std.specs.Prelude.{ℕ, ◌+◌, List, [], ◌∷◌, ◌++◌, map, Bool, not, cond, ◌&&◌, ◌||◌, ◌==◌, nat_lt, Option, is_none, is_some, bytes_eq}
-use Rattle.std.specs.Cmp.Lexicographic.{pointwise}
-use Rattle.std.specs.List.{filter, list_any, zip}
-use Rattle.desk_model.specs.Entry.{Entry, spent}
-use Rattle.desk_model.specs.Nonce.{Nonce, issued_by}
-use Rattle.desk_model.specs.{Account.opened_by, Order.ordered_by}
+use Rattle.std.specs.{Cmp.Lexicographic.pointwise, List.filter, List.list_any, List.zip}
 use Rattle.desk_model.specs.Tables.{AccountRow, AuthorizationRow, ChallengeRow, OrderRow, Tables}
 use Rattle.desk_model.specs.Derived.{account_code, chall_code, authz_code, order_code, restated_authorization, restated_order}
-pub use Rattle.desk_model.specs.declared.rows.Change.{Change}
-pub use Rattle.desk_model.specs.declared.rows.Change.TheVariants.{PutMeta, PutNonce, RemoveNonce, PutAccount, PutAuthorization, PutOrder}
-use Rattle.desk_model.specs.Effect.{noted_account, noted_authorization, noted_order, touches_account, touches_authorization}
-use Rattle.desk_model.specs.Effect.{touches_order, fresh_account, fresh_authorization, fresh_order, new_authorizations}
-use Rattle.desk_model.specs.Effect.{authorizations_after, lasts, is_overdue, falls, effect, effects, swept}
+use Rattle.desk_model.specs.Effect.{noted_account, noted_authorization, noted_order, touches_account, touches_authorization, touches_order, fresh_account}
+use Rattle.desk_model.specs.Effect.{fresh_authorization, fresh_order, new_authorizations, authorizations_after, lasts, is_overdue, falls, effect, effects}
+use Rattle.desk_model.specs.Effect.{swept}
+use Rattle.desk_model.specs.{Entry.Entry, Entry.spent, Nonce.Nonce, Nonce.issued_by, Account.opened_by, Order.ordered_by}
 use Rattle.desk_model.specs.declared.status.OrderStatus.TheVariants as order
 use Rattle.desk_model.specs.declared.status.AuthzStatus.TheVariants as authz
+pub use Rattle.desk_model.specs.declared.rows.Change.{Change}
+pub use Rattle.desk_model.specs.declared.rows.Change.TheVariants.{PutMeta, PutNonce, RemoveNonce, PutAccount, PutAuthorization, PutOrder}
 
 -- the rows with this one in its place by number
 abbrev pub put : {X : Type 0} → (X → ℕ) → X → List X → List X

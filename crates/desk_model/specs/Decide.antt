@@ -1,12 +1,10 @@
 -- What the desk decides on a call: a reply, and the entries to record, all at the moment at which the call acts.
 use Rattle.std.specs.Prelude.{ℕ, List, [], ◌∷◌, ◌++◌, take, drop, Bool, false, true, Option, Some, None}
 use Rattle.desk_model.specs.Entry.{Entry, entry_of, issued, spent, opened, ordered, History}
-use Rattle.desk_model.specs.History.{moment_of, record_all}
-use Rattle.desk_model.specs.Tables.{Tables, tables_at}
 use Rattle.desk_model.specs.Verdict.{Verdict, refused, key_taken, answers, opens, orders, moves}
-use Rattle.desk_model.specs.Rules.{signed_verdict, office_verdict, open_nonce}
 use Rattle.desk_model.specs.Shown.{Reply, reply_of, made_account, made_order, moved_reply, refusal_reply, taken_reply, nonce_reply, with_nonce, fresh_nonce}
-use Rattle.desk_model.specs.declared.{call.Call.Call, call.Ask.Ask, call.Signed.Signed}
+use Rattle.desk_model.specs.{History.moment_of, History.record_all, Tables.Tables, Tables.tables_at, Rules.signed_verdict, Rules.office_verdict}
+use Rattle.desk_model.specs.{Rules.open_nonce, declared.call.Call.Call, declared.call.Ask.Ask, declared.call.Signed.Signed}
 use Rattle.desk_model.specs.declared.call.Ask.TheVariants as ask
 use Rattle.desk_model.specs.declared.refusal.Refusal.TheVariants as refusal
 

@@ -1,17 +1,16 @@
 -- The status that a row ought to have, from its dated columns and the statuses stored beside it.
 use Rattle.std.specs.Prelude.{ℕ, ◌==◌, nat_le, List, [], ◌∷◌, ◌++◌, map, Bool, cond, ◌||◌, nat_lt, Option, Some, None, is_some, find}
 use Rattle.std.specs.List.{flat_map, list_any, list_all}
-use Rattle.desk_model.specs.{Lookup.holds, Account.status_of, Order.order_status_by}
 use Rattle.desk_model.specs.Authorization.{authorization_status_by, challenge_status_by, is_over, is_valid, is_good}
 use Rattle.desk_model.specs.Tables.{Tables, AccountRow, ChallengeRow, AuthorizationRow, OrderRow, Listed}
-use Rattle.desk_model.specs.declared.{status.AccountStatus.AccountStatus, status.OrderStatus.OrderStatus, status.AuthzStatus.AuthzStatus}
-use Rattle.desk_model.specs.declared.status.ChallengeStatus.{ChallengeStatus}
+use Rattle.desk_model.specs.{Lookup.holds, Account.status_of, Order.order_status_by, declared.status.AccountStatus.AccountStatus}
+use Rattle.desk_model.specs.{declared.status.OrderStatus.OrderStatus, declared.status.AuthzStatus.AuthzStatus, declared.status.ChallengeStatus.ChallengeStatus}
 use Rattle.desk_model.specs.declared.status.AccountStatus.TheVariants as account
 use Rattle.desk_model.specs.declared.status.OrderStatus.TheVariants as order
 use Rattle.desk_model.specs.declared.status.AuthzStatus.TheVariants as authz
 use Rattle.desk_model.specs.declared.status.ChallengeStatus.TheVariants as chall
-pub use Rattle.desk_model.specs.declared.rows.StatusFault.{StatusFault}
 use Rattle.desk_model.specs.declared.rows.StatusFault.TheVariants as fault
+pub use Rattle.desk_model.specs.declared.rows.StatusFault.{StatusFault}
 
 abbrev pub derived_account : AccountRow → AccountStatus
 derived_account row = status_of row.ended

@@ -3,19 +3,15 @@ use Rattle.std.specs.Prelude.{ℕ, List, [], ◌∷◌, ◌++◌, map, Bool, fal
 use Rattle.std.specs.Prelude.{decimal}
 use Rattle.std.specs.List.{filter, flat_map, slice_split}
 use Rattle.serde_json.specs.Data.{unsigned, Data, boolean, number, string}
-use Rattle.desk_model.specs.Json.{document, list, when}
-use Rattle.desk_model.specs.{Terms.Terms, Name.Name, Moment.moment_text, Facts.outcome_text, Legal.is_processing_challenge}
-use Rattle.desk_model.specs.Names.{dns_type, shown_name}
 use Rattle.desk_model.specs.Tokens.{base64url, token_text, authorization_of, dns_value_of}
-use Rattle.desk_model.specs.Refusals.{error_type, refusal_of}
-use Rattle.desk_model.specs.declared.refusal.Refusal.TheVariants as refusal
 use Rattle.desk_model.specs.Entry.{Outcome, good, incorrect_response, connection, dns}
 use Rattle.desk_model.specs.Authorization.{Kind, http_01, dns_01, Answer, Report, is_good, is_pending}
-use Rattle.desk_model.specs.Order.{DatedBytes, DatedProblem, is_processing}
 use Rattle.desk_model.specs.Tables.{Tables, AccountRow, ChallengeRow, AuthorizationRow, OrderRow}
-use Rattle.desk_model.specs.Derived.{authorization_numbered, numbers_of}
-use Rattle.desk_model.specs.declared.{status.AccountStatus.AccountStatus, status.AuthzStatus.AuthzStatus, status.ChallengeStatus.ChallengeStatus}
-use Rattle.desk_model.specs.declared.status.OrderStatus.{OrderStatus}
+use Rattle.desk_model.specs.{Json.document, Json.list, Json.when, Terms.Terms, Name.Name, Moment.moment_text, Facts.outcome_text, Legal.is_processing_challenge}
+use Rattle.desk_model.specs.{Names.dns_type, Names.shown_name, Refusals.error_type, Refusals.refusal_of, Order.DatedBytes, Order.DatedProblem}
+use Rattle.desk_model.specs.{Order.is_processing, Derived.authorization_numbered, Derived.numbers_of, declared.status.AccountStatus.AccountStatus}
+use Rattle.desk_model.specs.{declared.status.AuthzStatus.AuthzStatus, declared.status.ChallengeStatus.ChallengeStatus, declared.status.OrderStatus.OrderStatus}
+use Rattle.desk_model.specs.declared.refusal.Refusal.TheVariants as refusal
 use Rattle.desk_model.specs.declared.status.AccountStatus.TheVariants as account
 use Rattle.desk_model.specs.declared.status.AuthzStatus.TheVariants as authz
 use Rattle.desk_model.specs.declared.status.ChallengeStatus.TheVariants as chall

@@ -2,19 +2,16 @@
 use Rattle.std.specs.Prelude.{ℕ, ◌+◌, List, [], ◌∷◌, ◌++◌, length, map, Bool, true, false, not, cond, ◌&&◌, ◌||◌, ◌==◌, nat_lt}
 use Rattle.std.specs.Prelude.{nat_le, Option, Some, None, find, is_some, unwrap_or}
 use Rattle.std.specs.List.{filter, list_any}
-use Rattle.desk_model.specs.{Terms.Terms, Lookup.holds, Keys.thumbprint}
-use Rattle.desk_model.specs.Entry.{Entry, spent, contacts_changed, key_changed, account_ended, answered, reported, authorization_ended}
-use Rattle.desk_model.specs.Entry.{finalized, certified, failed, Outcome}
-use Rattle.desk_model.specs.History.{terms_after, earlier}
-use Rattle.desk_model.specs.Nonce.{Nonce, issued_by}
+use Rattle.desk_model.specs.Entry.{Entry, spent, contacts_changed, key_changed, account_ended, answered, reported, authorization_ended, finalized, certified}
+use Rattle.desk_model.specs.Entry.{failed, Outcome}
 use Rattle.desk_model.specs.Account.{Account, opened_by, AccountEnd, changing, rekeying, ends as account_ends, status_of as account_status_of}
-use Rattle.desk_model.specs.Authorization.{Authorization, Challenge, AuthorizationEnd, Answer, Report, made_by, count_challenges, ends_by, in_time}
-use Rattle.desk_model.specs.Authorization.{is_live, challenge_status_by}
-use Rattle.desk_model.specs.Order.{Order, ordered_by, finalizing, certifying, failing}
+use Rattle.desk_model.specs.Authorization.{Authorization, Challenge, AuthorizationEnd, Answer, Report, made_by, count_challenges, ends_by, in_time, is_live}
+use Rattle.desk_model.specs.Authorization.{challenge_status_by}
 use Rattle.desk_model.specs.Tables.{AccountRow, ChallengeRow, AuthorizationRow, OrderRow, Tables, row_of_authorization, row_of_challenge, row_of_order}
-use Rattle.desk_model.specs.Derived.{authorization_numbered, numbers_of, restated_authorization, restated_order}
+use Rattle.desk_model.specs.{Terms.Terms, Lookup.holds, Keys.thumbprint, History.terms_after, History.earlier, Nonce.Nonce, Nonce.issued_by, Order.Order}
+use Rattle.desk_model.specs.{Order.ordered_by, Order.finalizing, Order.certifying, Order.failing, Derived.authorization_numbered, Derived.numbers_of}
+use Rattle.desk_model.specs.{Derived.restated_authorization, Derived.restated_order, declared.status.OrderStatus.OrderStatus}
 use Rattle.desk_model.specs.declared.status.AccountStatus.TheVariants as account
-use Rattle.desk_model.specs.declared.status.OrderStatus.{OrderStatus}
 use Rattle.desk_model.specs.declared.status.OrderStatus.TheVariants as order
 use Rattle.desk_model.specs.declared.status.AuthzStatus.TheVariants as authz
 use Rattle.desk_model.specs.declared.status.ChallengeStatus.TheVariants as chall

@@ -1,7 +1,6 @@
 -- JSON documents: objects whose members are given in the order of their names, and lists.
 use Rattle.std.specs.Prelude.{ℕ, List, [], ◌∷◌, Bool, if◌then◌else◌}
-use Rattle.serde_json.specs.Data.{Data, array, object, Members, no_members, member}
-use Rattle.serde_json.specs.View.{items_of}
+use Rattle.serde_json.specs.{Data.Data, Data.array, Data.object, Data.Members, Data.no_members, Data.member, View.items_of}
 
 abbrev pub members : List (List ℕ × Data) → Members
 members [] = no_members

@@ -2,9 +2,8 @@
 use Rattle.std.specs.Prelude.{◌≡◌, ℕ, Bool, ◌⊎◌, ◌&&◌, ◌||◌, ◌==◌, List, ◌++◌}
 use Rattle.std.specs.Prelude.{length, codes, Option, Some, None, IsTrue, bytes_eq, option_and_then, if◌then◌else◌}
 use Rattle.std.specs.{Int.is_in_range, Char.is_ascii_alphanumeric, List.list_all, Option.option_zip}
-use Rattle.serde_json.specs.Data.{Data}
+use Rattle.serde_json.specs.{Data.Data, Find.get, Find.as_str}
 use Rattle.sha2.specs.Sha256.{sha256}
-use Rattle.serde_json.specs.Find.{get, as_str}
 
 -- a public key, by the strings of its members
 pub data Key : Type 0 where

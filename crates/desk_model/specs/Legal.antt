@@ -1,19 +1,16 @@
 -- Which entry may follow a history, and which histories are legal.
 use Rattle.std.specs.Prelude.{ℕ, ◌+◌, ◌≤◌, List, [], ◌∷◌, length, Bool, false, true, not, ◌&&◌, ◌||◌, ◌==◌, nat_le, is_none, IsTrue, map, bytes_eq, codes}
 use Rattle.std.specs.List.{list_any, list_all}
-use Rattle.desk_model.specs.Name.{Name, same_name}
 use Rattle.desk_model.specs.Entry.{Entry, made, issued, spent, opened, contacts_changed, key_changed, account_ended, ordered, answered, reported}
 use Rattle.desk_model.specs.Entry.{authorization_ended, finalized, certified, failed, Wanted, new, OrderProblem, Dated, reused, History}
-use Rattle.desk_model.specs.History.{clock, terms}
 use Rattle.desk_model.specs.Limits.{last_moment, last_number, longest_certificate, longest_csr, longest_detail, most_names}
-use Rattle.desk_model.specs.{Lookup.holds, BaseName.is_base_name, Keys.IsKeyText, Terms.are_terms, Contact.contacts_pass}
 use Rattle.desk_model.specs.Nonce.{nonce, nonces, is_open}
 use Rattle.desk_model.specs.Account.{accounts, account_by_number, account_by_key, account_status, is_valid as is_valid_account}
-use Rattle.desk_model.specs.Authorization.{Authorization, authorizations, authorization, authorization_of, authorization_status, is_valid}
-use Rattle.desk_model.specs.Authorization.{challenge_status, is_live, is_pending, kinds_of, count_challenges}
+use Rattle.desk_model.specs.Authorization.{Authorization, authorizations, authorization, authorization_of, authorization_status, is_valid, challenge_status}
+use Rattle.desk_model.specs.Authorization.{is_live, is_pending, kinds_of, count_challenges}
 use Rattle.desk_model.specs.Order.{orders, order_by_number, order_status, is_ready, is_processing}
-use Rattle.desk_model.specs.Texts.{AreTexts, IsTextProblem}
-use Rattle.desk_model.specs.declared.status.ChallengeStatus.{ChallengeStatus}
+use Rattle.desk_model.specs.{Name.Name, Name.same_name, History.clock, History.terms, Lookup.holds, BaseName.is_base_name, Keys.IsKeyText, Terms.are_terms}
+use Rattle.desk_model.specs.{Contact.contacts_pass, Texts.AreTexts, Texts.IsTextProblem, declared.status.ChallengeStatus.ChallengeStatus}
 use Rattle.desk_model.specs.declared.status.ChallengeStatus.TheVariants as chall
 
 abbrev pub is_pending_challenge : ChallengeStatus → Bool

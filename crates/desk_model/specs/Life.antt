@@ -1,12 +1,10 @@
 -- The lives of a desk: what may happen to it, and what holds over every life.
 use Rattle.std.specs.Prelude.{ℕ, ◌≡◌, List, [], ◌∷◌, ◌++◌, Bool, true, false, Option, Some, None, IsTrue, is_some}
-use Rattle.desk_model.specs.{Entry.History, History.moment_of, Legal.Legal, Authorization.is_over, Rules.open_nonce}
 use Rattle.desk_model.specs.Tables.{Tables, AccountRow, ChallengeRow, AuthorizationRow, OrderRow, tables_at, picture}
-use Rattle.desk_model.specs.Questions.{account_on, order_on, authorization_on, owner_on, challenge_of}
-use Rattle.desk_model.specs.Decide.{decide, after}
-use Rattle.desk_model.specs.Run.{fault, IsFormedCall}
-use Rattle.desk_model.specs.declared.{call.Call.Call, call.Signed.Signed, reply.Reply.Reply, status.AccountStatus.AccountStatus, status.OrderStatus.OrderStatus}
-use Rattle.desk_model.specs.declared.status.ChallengeStatus.{ChallengeStatus}
+use Rattle.desk_model.specs.{Entry.History, History.moment_of, Legal.Legal, Authorization.is_over, Rules.open_nonce, Questions.account_on, Questions.order_on}
+use Rattle.desk_model.specs.{Questions.authorization_on, Questions.owner_on, Questions.challenge_of, Decide.decide, Decide.after, Run.fault, Run.IsFormedCall}
+use Rattle.desk_model.specs.{declared.call.Call.Call, declared.call.Signed.Signed, declared.reply.Reply.Reply, declared.status.AccountStatus.AccountStatus}
+use Rattle.desk_model.specs.{declared.status.OrderStatus.OrderStatus, declared.status.ChallengeStatus.ChallengeStatus}
 use Rattle.desk_model.specs.declared.call.Ask.TheVariants as ask
 use Rattle.desk_model.specs.declared.status.AccountStatus.TheVariants as account
 use Rattle.desk_model.specs.declared.status.OrderStatus.TheVariants as order

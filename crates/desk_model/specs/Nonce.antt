@@ -1,7 +1,6 @@
 -- Nonces (RFC 8555, 6.5).
 use Rattle.std.specs.Prelude.{ℕ, ◌+◌, List, [], ◌∷◌, ◌++◌, length, Bool, ◌&&◌, ◌==◌, nat_le, Option, Some, None, find, is_none, if◌then◌else◌}
-use Rattle.desk_model.specs.Entry.{Entry, issued, spent, History}
-use Rattle.desk_model.specs.History.{first, terms}
+use Rattle.desk_model.specs.{Entry.Entry, Entry.issued, Entry.spent, Entry.History, History.first, History.terms}
 pub use Rattle.desk_model.specs.declared.objects.Nonce.{Nonce}
 
 -- the nonce that the entry issues, if it does

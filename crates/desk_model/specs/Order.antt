@@ -1,15 +1,13 @@
 -- Orders (RFC 8555, 7.1.3, 7.1.6, 7.4).
 use Rattle.std.specs.Prelude.{ℕ, ◌+◌, List, [], ◌∷◌, ◌++◌, length, Bool, false, true, ◌==◌, ◌||◌, nat_lt, Option, Some, None, find, if◌then◌else◌, is_some}
 use Rattle.std.specs.List.{list_any, list_all}
-use Rattle.desk_model.specs.Terms.{Terms}
 use Rattle.desk_model.specs.Entry.{Entry, ordered, finalized, certified, failed, Wanted, new, reused, History}
-use Rattle.desk_model.specs.History.{first, terms}
 use Rattle.desk_model.specs.Authorization.{Authorization, authorizations, authorization, authorization_status, is_over, is_valid}
+use Rattle.desk_model.specs.{Terms.Terms, History.first, History.terms, declared.status.OrderStatus.OrderStatus}
+use Rattle.desk_model.specs.declared.status.OrderStatus.TheVariants as order
 pub use Rattle.desk_model.specs.declared.objects.Order.{Order}
 pub use Rattle.desk_model.specs.declared.rows.DatedBytes.{DatedBytes}
 pub use Rattle.desk_model.specs.declared.rows.DatedProblem.{DatedProblem}
-use Rattle.desk_model.specs.declared.status.OrderStatus.{OrderStatus}
-use Rattle.desk_model.specs.declared.status.OrderStatus.TheVariants as order
 
 -- the numbers of the authorizations that the names get; those that are made are numbered from here
 abbrev pub listed_by : List Wanted → ℕ → List ℕ

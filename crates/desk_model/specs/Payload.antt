@@ -1,9 +1,7 @@
 -- What a payload says, by the route that reads it. None: it hasn't the form that the route reads.
 use Rattle.std.specs.Prelude.{ℕ, List, [], ◌∷◌, Bool, false, ◌||◌, Option, Some, None, is_some, if◌then◌else◌, bytes_eq, codes}
 use Rattle.std.specs.Prelude.{option_map, option_and_then, unwrap_or}
-use Rattle.serde_json.specs.Data.{Data, Items, no_items, item}
-use Rattle.serde_json.specs.Find.{get, as_str, as_object, as_array, as_bool}
-use Rattle.serde_json.specs.Read.{read}
+use Rattle.serde_json.specs.{Data.Data, Data.Items, Data.no_items, Data.item, Find.get, Find.as_str, Find.as_object, Find.as_array, Find.as_bool, Read.read}
 use Rattle.desk_model.specs.Keys.{canonical_text, key_in, text_member, text_members}
 pub use Rattle.desk_model.specs.declared.payload.NewAccount.{NewAccount}
 pub use Rattle.desk_model.specs.declared.payload.AccountChange.{AccountChange}

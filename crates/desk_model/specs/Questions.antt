@@ -1,8 +1,7 @@
 -- What a decision asks of the tables.
 use Rattle.std.specs.Prelude.{ℕ, ◌+◌, ◌==◌, ◌&&◌, nat_le, List, Bool, Option, find, bytes_eq}
-use Rattle.desk_model.specs.{Authorization.is_valid, Nonce.Nonce, Effect.has_row}
-use Rattle.desk_model.specs.Name.{Name, same_name}
 use Rattle.desk_model.specs.Tables.{Tables, AccountRow, ChallengeRow, AuthorizationRow, OrderRow}
+use Rattle.desk_model.specs.{Authorization.is_valid, Nonce.Nonce, Effect.has_row, Name.Name, Name.same_name}
 
 abbrev pub nonce_on : Tables → ℕ → Option Nonce
 nonce_on T serial = find (λ n. n.serial == serial) T.nonces

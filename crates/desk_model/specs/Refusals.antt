@@ -2,10 +2,9 @@
 use Rattle.std.specs.Prelude.{ℕ, List, [], ◌∷◌, ◌++◌, map, codes}
 use Rattle.serde_json.specs.Data.{unsigned, Data, string}
 use Rattle.serde_json.specs.Data as json
-use Rattle.desk_model.specs.Json.{document, list}
-pub use Rattle.desk_model.specs.declared.refusal.Refusal.{Refusal}
+use Rattle.desk_model.specs.{Json.document, Json.list, declared.reply.Problem.Problem, declared.reply.Subproblem.Subproblem}
 use Rattle.desk_model.specs.declared.refusal.Refusal.TheVariants as refusal
-use Rattle.desk_model.specs.declared.reply.{Problem.Problem, Subproblem.Subproblem}
+pub use Rattle.desk_model.specs.declared.refusal.Refusal.{Refusal}
 
 -- what is said of a refusal
 pub record RefusalRow : Type 0 where

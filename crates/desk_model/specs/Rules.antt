@@ -1,25 +1,21 @@
 -- The rules on requests: which are refused, and what the others record and show, by the tables at their moment.
 use Rattle.std.specs.Prelude.{ℕ, suc, zero, ◌*◌, List, [], ◌∷◌, length, take, drop, filter, Bool, false, true, not, ◌&&◌, ◌==◌, nat_le, Option, Some, None, Ok}
 use Rattle.std.specs.Prelude.{Err, is_none, if◌then◌else◌, bytes_eq, option_and_then}
-use Rattle.desk_model.specs.{Lookup.holds, Nonce.Nonce, Account.is_valid as is_valid_account, Contact.contacts_fault}
-use Rattle.desk_model.specs.Name.{Name, same_name}
-use Rattle.desk_model.specs.Names.{dns_type, name_of}
 use Rattle.desk_model.specs.Tokens.{NonceText, nonce_in, body_matches, records_match, from_base64url}
 use Rattle.desk_model.specs.Entry.{Wanted, new, reused, Ending, deactivated, revoked, Outcome, good, incorrect_response, connection, dns, OrderProblem}
 use Rattle.desk_model.specs.Authorization.{Kind, http_01, dns_01, is_live, is_pending, kinds_of}
-use Rattle.desk_model.specs.Order.{is_ready, is_processing}
-use Rattle.desk_model.specs.Legal.{is_problem, has_length, is_pending_challenge, is_processing_challenge}
-use Rattle.desk_model.specs.Limits.{longest_certificate, longest_csr, most_names}
 use Rattle.desk_model.specs.Tables.{Tables, AccountRow, ChallengeRow, AuthorizationRow, OrderRow}
 use Rattle.desk_model.specs.Questions.{nonce_on, account_on, account_with_key, order_on, authorization_on, owner_on, challenge_of, serving_on}
 use Rattle.desk_model.specs.Payload.{NewAccount, new_account, AccountChange, account_change, KeyChange, key_change, AuthorizationChange, authorization_change}
 use Rattle.desk_model.specs.Payload.{ChallengeChange, challenge_change, Identifier, new_order, finalize}
-use Rattle.desk_model.specs.Payload as payload
-use Rattle.desk_model.specs.Document.{account_url, expected}
-use Rattle.desk_model.specs.declared.{refusal.Refusal.Refusal, reply.Subproblem.Subproblem, status.AuthzStatus.AuthzStatus, call.OfficeAsk.OfficeAsk}
-use Rattle.desk_model.specs.declared.{call.Signed.Signed, call.Target.Target, call.Finding.Finding}
-use Rattle.desk_model.specs.declared.refusal.Refusal.TheVariants as refusal
 use Rattle.desk_model.specs.Verdict.{Verdict, refused, key_taken, answers, opens, orders, moves, check, given, unless_fault, choose}
+use Rattle.desk_model.specs.{Lookup.holds, Nonce.Nonce, Account.is_valid as is_valid_account, Contact.contacts_fault, Name.Name, Name.same_name, Names.dns_type}
+use Rattle.desk_model.specs.{Names.name_of, Order.is_ready, Order.is_processing, Legal.is_problem, Legal.has_length, Legal.is_pending_challenge}
+use Rattle.desk_model.specs.{Legal.is_processing_challenge, Limits.longest_certificate, Limits.longest_csr, Limits.most_names, Document.account_url}
+use Rattle.desk_model.specs.{Document.expected, declared.refusal.Refusal.Refusal, declared.reply.Subproblem.Subproblem, declared.status.AuthzStatus.AuthzStatus}
+use Rattle.desk_model.specs.{declared.call.OfficeAsk.OfficeAsk, declared.call.Signed.Signed, declared.call.Target.Target, declared.call.Finding.Finding}
+use Rattle.desk_model.specs.Payload as payload
+use Rattle.desk_model.specs.declared.refusal.Refusal.TheVariants as refusal
 use Rattle.desk_model.specs.declared.verdict.Shows.TheVariants as show
 use Rattle.desk_model.specs.declared.verdict.Listing.TheVariants as list
 use Rattle.desk_model.specs.declared.entry.Move.TheVariants as move

@@ -1,9 +1,8 @@
 -- Runs of calls, and the faults of a call.
 use Rattle.std.specs.Prelude.{ℕ, ◌+◌, ◌*◌, List, [], ◌∷◌, length, not, nat_lt, Option, Some, None, Result, Ok, Err, IsUtf8, if◌then◌else◌}
-use Rattle.desk_model.specs.Entry.{Entry, issued, ordered, Wanted, new, reused, History}
-use Rattle.desk_model.specs.{Keys.IsKeyText, Legal.numbers_fit, Limits.last_moment, Texts.IsTextProblem}
-use Rattle.desk_model.specs.Decide.{decide, after}
-use Rattle.desk_model.specs.declared.{call.BadKey.BadKey, call.Call.Call, call.Ask.Ask, call.OfficeAsk.OfficeAsk, call.Signed.Signed, reply.Reply.Reply}
+use Rattle.desk_model.specs.{Entry.Entry, Entry.issued, Entry.ordered, Entry.Wanted, Entry.new, Entry.reused, Entry.History, Keys.IsKeyText, Legal.numbers_fit}
+use Rattle.desk_model.specs.{Limits.last_moment, Texts.IsTextProblem, Decide.decide, Decide.after, declared.call.BadKey.BadKey, declared.call.Call.Call}
+use Rattle.desk_model.specs.{declared.call.Ask.Ask, declared.call.OfficeAsk.OfficeAsk, declared.call.Signed.Signed, declared.reply.Reply.Reply}
 use Rattle.desk_model.specs.declared.call.Ask.TheVariants as ask
 use Rattle.desk_model.specs.declared.call.OfficeAsk.TheVariants as office
 

@@ -1,14 +1,12 @@
 -- The tables of a history at a moment: a row for each object, with its dated columns and its status then.
 use Rattle.std.specs.Prelude.{ℕ, ◌+◌, List, [], ◌∷◌, length, map, Option}
 use Rattle.std.specs.List.{filter}
-use Rattle.desk_model.specs.Entry.{History}
-use Rattle.desk_model.specs.History.{clock, terms}
-use Rattle.desk_model.specs.Nonce.{Nonce, nonces, is_open}
 use Rattle.desk_model.specs.Account.{Account, accounts, account_end, account_status, contacts, key_of}
-use Rattle.desk_model.specs.Authorization.{Authorization, AuthorizationEnd, Challenge, Answer, Report, authorizations, authorization_end}
-use Rattle.desk_model.specs.Authorization.{authorization_status, report, answer, challenge_status, count_challenges}
+use Rattle.desk_model.specs.Authorization.{Authorization, AuthorizationEnd, Challenge, Answer, Report, authorizations, authorization_end, authorization_status}
+use Rattle.desk_model.specs.Authorization.{report, answer, challenge_status, count_challenges}
 use Rattle.desk_model.specs.Order.{Order, DatedBytes, DatedProblem, orders, csr, certificate, failure, order_status}
-use Rattle.desk_model.specs.declared.status.{AuthzStatus.AuthzStatus, ChallengeStatus.ChallengeStatus, OrderStatus.OrderStatus}
+use Rattle.desk_model.specs.{Entry.History, History.clock, History.terms, Nonce.Nonce, Nonce.nonces, Nonce.is_open, declared.status.AuthzStatus.AuthzStatus}
+use Rattle.desk_model.specs.{declared.status.ChallengeStatus.ChallengeStatus, declared.status.OrderStatus.OrderStatus}
 pub use Rattle.desk_model.specs.declared.rows.Counters.{Counters}
 pub use Rattle.desk_model.specs.declared.rows.Meta.{Meta}
 pub use Rattle.desk_model.specs.declared.rows.AccountRow.{AccountRow}

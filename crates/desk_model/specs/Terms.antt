@@ -1,7 +1,6 @@
 -- What the operator fixes when the desk is made: the base of its URLs and the lives, in seconds.
 use Rattle.std.specs.Prelude.{ℕ, Bool, not, ◌&&◌, ◌||◌, ◌==◌, nat_eq, ◌-◌, List, length, codes, slice_index}
-use Rattle.std.specs.Int.{is_in_range}
-use Rattle.std.specs.List.{list_all, starts_with}
+use Rattle.std.specs.{Int.is_in_range, List.list_all, List.starts_with}
 use Rattle.desk_model.specs.Limits.{longest_base, longest_life, shortest_base}
 
 pub record Terms : Type 0 where

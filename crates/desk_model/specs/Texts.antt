@@ -1,8 +1,7 @@
 -- What a desk keeps as text is UTF-8 (RFC 8555, 5; RFC 8259, 8.1).
 use Rattle.std.specs.Prelude.{ℕ, List, IsUtf8, IfSome}
-use Rattle.desk_model.specs.{Kept.EachOf, Tables.Tables}
-use Rattle.desk_model.specs.declared.{call.OrderProblem.OrderProblem, rows.AccountRow.AccountRow, rows.AuthorizationRow.AuthorizationRow}
-use Rattle.desk_model.specs.declared.{rows.DatedProblem.DatedProblem, rows.Meta.Meta, rows.OrderRow.OrderRow}
+use Rattle.desk_model.specs.{Kept.EachOf, Tables.Tables, declared.call.OrderProblem.OrderProblem}
+use Rattle.desk_model.specs.declared.rows.{AccountRow.AccountRow, AuthorizationRow.AuthorizationRow, DatedProblem.DatedProblem, Meta.Meta, OrderRow.OrderRow}
 
 -- each of them is UTF-8
 abbrev pub AreTexts : List (List ℕ) → Type 0

@@ -1,10 +1,8 @@
 -- The texts of nonces and tokens (RFC 8555, 6.5, 8), and the answers that challenges ask for (8.1, 8.3, 8.4).
-use Rattle.std.specs.Prelude.{◌≡◌, ℕ, ◌+◌, ◌*◌, Bool, ◌||◌, ◌==◌, List, [], ◌∷◌, ◌++◌, length, take, drop, take_while, reverse}
-use Rattle.std.specs.Prelude.{Option, Some, None, Ok, Err, IsTrue, All, bytes_eq, option_and_then, if◌then◌else◌}
-use Rattle.std.specs.Int.{w64, to_be_bytes}
-use Rattle.std.specs.List.{list_any}
-use Rattle.base64.specs.Engines.{url_safe_no_pad}
-use Rattle.base64.specs.GeneralPurpose.{encode_of, decode_of}
+use Rattle.std.specs.Prelude.{◌≡◌, ℕ, ◌+◌, ◌*◌, Bool, ◌||◌, ◌==◌, List, [], ◌∷◌, ◌++◌, length, take, drop, take_while, reverse, Option, Some, None, Ok, Err}
+use Rattle.std.specs.Prelude.{IsTrue, All, bytes_eq, option_and_then, if◌then◌else◌}
+use Rattle.std.specs.{Int.w64, Int.to_be_bytes, List.list_any}
+use Rattle.base64.specs.{Engines.url_safe_no_pad, GeneralPurpose.encode_of, GeneralPurpose.decode_of}
 use Rattle.sha2.specs.Sha256.{sha256}
 
 -- base64 in the URL-safe alphabet without padding

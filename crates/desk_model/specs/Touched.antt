@@ -1,14 +1,13 @@
 -- The rows that a call touches: what it names, what falls by the passing of time, and what hangs on these.
 use Rattle.std.specs.Prelude.{ℕ, max, ◌==◌, ◌&&◌, ◌||◌, not, nat_lt, Bool, []}
 use Rattle.std.specs.List.{filter, list_any}
-use Rattle.desk_model.specs.{Derived.numbers_of, Tables.Tables}
 use Rattle.desk_model.specs.Effect.{is_live_order, is_overdue, lasts}
-use Rattle.desk_model.specs.declared.{rows.AccountRow.AccountRow, rows.AuthorizationRow.AuthorizationRow, rows.OrderRow.OrderRow, call.Ask.Ask}
+use Rattle.desk_model.specs.Asked.{carries, has_key, has_new_key, names_account, names_order, names_authorization, names_owner, asks_orders}
+use Rattle.desk_model.specs.Asked.{asks_authorizations, asks_name}
+use Rattle.desk_model.specs.{Derived.numbers_of, Tables.Tables, declared.rows.AccountRow.AccountRow, declared.rows.AuthorizationRow.AuthorizationRow}
+use Rattle.desk_model.specs.{declared.rows.OrderRow.OrderRow, declared.call.Ask.Ask, declared.call.Call.Call, declared.objects.Nonce.Nonce}
 use Rattle.desk_model.specs.declared.call.Ask.TheVariants as ask
 use Rattle.desk_model.specs.declared.call.OfficeAsk.TheVariants as office
-use Rattle.desk_model.specs.declared.{call.Call.Call, objects.Nonce.Nonce}
-use Rattle.desk_model.specs.Asked.{carries, has_key, has_new_key, names_account, names_order}
-use Rattle.desk_model.specs.Asked.{names_authorization, names_owner, asks_orders, asks_authorizations, asks_name}
 
 -- the nonce that the request carries, and each past its life
 abbrev pub is_touched_nonce : Tables → ℕ → Ask → Nonce → Bool

@@ -1,14 +1,12 @@
 -- What a desk's tables are to a file.
 use Rattle.std.proofs.Common.{◌≡◌, Result, Ok, Err, subst}
 use Rattle.std.specs.Prelude.{IsTrue, OnOk}
-use Rattle.sqlite.specs.{Effect.Database, State.State, Store.Ghosts}
-use Rattle.sqlite.specs.Held.{Held, state}
+use Rattle.sqlite.specs.{Effect.Database, State.State, Store.Ghosts, Held.Held, Held.state}
 use Rattle.desk_model.specs.Tables.{Tables}
 use Rattle.sql_read.specs.Failures.{MayRead}
 use Rattle.sql_read.proofs.ShownRows.{shown_before}
 use Rattle.sql_schema.specs.Names.{has_all_indexes}
-use Rattle.desk_store.specs.Desks.{HasDesk, PicturesAreDesks}
-use Rattle.desk_store.specs.Opening.{IsWhole}
+use Rattle.desk_store.specs.{Desks.HasDesk, Desks.PicturesAreDesks, Opening.IsWhole}
 use Rattle.model_laws.specs.Ordered.{IsOrdered}
 use Rattle.store_book.specs.IsBook.{IsBook}
 use Rattle.store_laws.proofs.FlatTexts.{picture_is_stored_book}

@@ -2,25 +2,19 @@
 use Rattle.std.proofs.Common.{◌≡◌, ◌≢◌, Bool, Result, Ok, Err, inl, inr, true, false, refl, ap, sym, subst, ◌∙◌, arith}
 use Rattle.std.specs.Prelude.{◌⊎◌, IfErr, IsTrue, OnErr, OnOk}
 use Rattle.sqlite.proofs.StateLemmas.{survives_then, survives_weaker}
-use Rattle.sqlite.specs.{Effect.Database, Schema.Schema, Store.Ghosts, Tree.Trees}
-use Rattle.sqlite.specs.Held.{Held, state}
 use Rattle.sqlite.specs.State.{State, HasCleanDisk, IsUnchanged, Survives}
+use Rattle.sqlite.specs.{Effect.Database, Schema.Schema, Store.Ghosts, Tree.Trees, Held.Held, Held.state}
 use Rattle.sqlite_schema.specs.Names.{same_name}
 use Rattle.desk_model.specs.Tables.{Tables}
-use Rattle.sql_read.proofs.BookChecks.{table_still, first_still as fails_first}
+use Rattle.sql_read.proofs.{BookChecks.table_still, BookChecks.first_still as fails_first, FirstLoading.first_before}
 use Rattle.sql_read.specs.Only.{ShowsOnlyBook, ShowsOnlyFirstBook}
-use Rattle.sql_read.proofs.FirstLoading.{first_before}
 use Rattle.sql_write.specs.Committing.{GoesBack}
 use Rattle.sql_schema.proofs.StaysLemmas.{stays_then, stays_unchanged}
-use Rattle.sql_schema.specs.Names.{has_all_indexes, uses_key_table}
-use Rattle.sql_schema.specs.Schema.{desk_schema, first_schema}
-use Rattle.sql_schema.specs.Stays.{Asks}
+use Rattle.sql_schema.specs.{Names.has_all_indexes, Names.uses_key_table, Schema.desk_schema, Schema.first_schema, Stays.Asks}
 use Rattle.store_api.specs.Sight.{Keeps}
-use Rattle.desk_store.specs.Desks.{IsDesk, store_sight}
-use Rattle.desk_store.specs.Known.{IsKnownOf}
 use Rattle.desk_store.specs.Opening.{IsUpgraded, IsWhole, IsWholeFirst, ShowsBook, ShowsFirstBook, ShowsNoBook, ShowsNoDesk, ShowsNoFirstBook}
-use Rattle.desk_store.specs.declared.{open_fault.OpenFault.OpenFault, store.Store.Store}
-use Rattle.desk_store.specs.declared.open_fault.OpenFault.TheVariants.{NewerFormat, NotADesk}
+use Rattle.desk_store.specs.{Desks.IsDesk, Desks.store_sight, Known.IsKnownOf, declared.open_fault.OpenFault.OpenFault, declared.store.Store.Store}
+use Rattle.desk_store.specs.{declared.open_fault.OpenFault.TheVariants.NewerFormat, declared.open_fault.OpenFault.TheVariants.NotADesk}
 use Rattle.desk_store.proofs.{NothingWritten.failed, Upgrading.first_unchanged}
 use Rattle.sql_tables.specs.Holds.{Holds}
 use Rattle.sql_upgrade.specs.FirstDesks.{HasFirst, HasSecond}

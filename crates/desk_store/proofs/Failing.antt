@@ -1,24 +1,18 @@
 -- What a call that failed left.
 use Rattle.std.proofs.Common.{◌≡◌, List, false, None, Result, Ok, Err, inl, inr, arith}
 use Rattle.std.specs.Prelude.{IfErr}
-use Rattle.sqlite.specs.Held.{Held, state}
-use Rattle.sqlite.specs.State.{State, HasCleanDisk, Survives}
-use Rattle.sqlite.specs.Store.{Ghosts}
+use Rattle.sqlite.specs.{Held.Held, Held.state, State.State, State.HasCleanDisk, State.Survives, Store.Ghosts}
 use Rattle.desk_model.specs.Tables.{Tables}
-use Rattle.sql_write.specs.{Committing.IsBeforeCommit, Refusals.IsCause, Statements.Sql}
-use Rattle.sql_write.specs.declared.fault.SaveFault.{SaveFault}
+use Rattle.sql_write.specs.{Committing.IsBeforeCommit, Refusals.IsCause, Statements.Sql, declared.fault.SaveFault.SaveFault}
 use Rattle.sql_write.proofs.{Exits.survives_both, Told.cause_then}
 use Rattle.sql_schema.proofs.StaysLemmas.{asks_then}
 use Rattle.sql_schema.specs.Stays.{Asks}
 use Rattle.sql_upgrade.specs.FirstDesks.{HasFirst}
-use Rattle.store_api.specs.Sight.{Reads}
-use Rattle.store_api.specs.declared.fault.StorageFault.{StorageFault}
+use Rattle.store_api.specs.{Sight.Reads, declared.fault.StorageFault.StorageFault}
 use Rattle.store_api.specs.declared.fault.StorageFault.TheVariants as storagefault
 use Rattle.desk_store.specs.Causes.{Failed, FailedToSave, IsMetFault, IsOfSave, IsSilent, LeavesNothing}
-use Rattle.desk_store.specs.Desks.{store_sight}
-use Rattle.desk_store.specs.Opening.{FailedToOpen, FailedToUpgrade}
-use Rattle.desk_store.specs.declared.{open_fault.OpenFault.OpenFault, store.Store.Store}
-use Rattle.desk_store.specs.declared.open_fault.OpenFault.TheVariants.{NewerFormat, NotADesk, Storage}
+use Rattle.desk_store.specs.{Desks.store_sight, Opening.FailedToOpen, Opening.FailedToUpgrade, declared.store.Store.Store}
+use Rattle.desk_store.specs.declared.open_fault.OpenFault.{OpenFault, TheVariants.NewerFormat, TheVariants.NotADesk, TheVariants.Storage}
 use Rattle.desk_store.proofs.{EitherFormat.of_faults, OpeningFaults.met_later}
 
 -- nothing is left that was not, where no commit survives

@@ -1,17 +1,13 @@
 -- What is known of tables, and how it follows their changes.
-use Rattle.std.proofs.Common.{◌≡◌, ◌≢◌, ◌≤◌, ℕ, zero, suc, Bool, true, false, List, [], ◌∷◌, map, filter, cond, Option, None, Some}
-use Rattle.std.proofs.Common.{inl, inr, refl, sym, ap, subst, ◌∙◌, arith}
+use Rattle.std.proofs.Common.{◌≡◌, ◌≢◌, ◌≤◌, ℕ, zero, suc, Bool, true, false, List, [], ◌∷◌, map, filter, cond, Option, None, Some, inl, inr, refl, sym, ap}
+use Rattle.std.proofs.Common.{subst, ◌∙◌, arith}
+use Rattle.std.proofs.{lemmas.Bool.eq-eqb, lemmas.Bool.le-ltb, lemmas.Bool.Decides.nat_tests, lemmas.List.get_or-set_other}
 use Rattle.std.specs.Prelude.{◌==◌, ◌&&◌, IfSome, IsTrue, if◌then◌else◌, nat_le, nat_lt, replicate, slice_index, slice_set}
-use Rattle.std.proofs.lemmas.Bool.{eq-eqb, le-ltb}
-use Rattle.std.proofs.lemmas.{Bool.Decides.nat_tests, List.get_or-set_other}
-use Rattle.model_laws.proofs.Basics.{each, each_all, each_both, each_of_map}
-use Rattle.desk_model.specs.Change.{applied, applied_one, put}
-use Rattle.desk_model.specs.Derived.{authz_code, order_code}
-use Rattle.desk_model.specs.{Kept.EachOf, Tables.Tables}
+use Rattle.model_laws.proofs.{Basics.each, Basics.each_all, Basics.each_both, Basics.each_of_map, Keeps.each-filter}
+use Rattle.desk_model.specs.{Change.applied, Change.applied_one, Change.put, Derived.authz_code, Derived.order_code, Kept.EachOf, Tables.Tables}
 use Rattle.desk_model.specs.declared.{objects.Nonce.Nonce, rows.AuthorizationRow.AuthorizationRow, rows.Change.Change, rows.Meta.Meta, rows.OrderRow.OrderRow}
-use Rattle.desk_model.specs.declared.{status.AuthzStatus.AuthzStatus, status.OrderStatus.OrderStatus}
-use Rattle.desk_model.specs.declared.rows.Change.TheVariants.{PutNonce, RemoveNonce, PutAuthorization, PutOrder}
-use Rattle.model_laws.proofs.Keeps.{each-filter}
+use Rattle.desk_model.specs.declared.{status.AuthzStatus.AuthzStatus, status.OrderStatus.OrderStatus, rows.Change.TheVariants.PutNonce}
+use Rattle.desk_model.specs.declared.{rows.Change.TheVariants.RemoveNonce, rows.Change.TheVariants.PutAuthorization, rows.Change.TheVariants.PutOrder}
 use Rattle.model_laws.specs.Ordered.{Ascends}
 use Rattle.model_lives.proofs.Lists.{each_filtered}
 use Rattle.model_lives.specs.LookUps.{authorizations_past, nonces_before, nonces_numbered, orders_past}

@@ -1,14 +1,11 @@
 -- Rows by number where one is put or removed, and the nonces that are known, in their places.
-use Rattle.std.proofs.Common.{◌≡◌, ◌≢◌, ◌⊎◌, inl, inr, ◌+◌, ℕ, zero, suc, Bool, true, false, not, List, [], ◌∷◌, filter, cond, Option, None, Some}
-use Rattle.std.proofs.Common.{refl, sym, ap, subst, ◌∙◌, arith}
+use Rattle.std.proofs.Common.{◌≡◌, ◌≢◌, ◌⊎◌, inl, inr, ◌+◌, ℕ, zero, suc, Bool, true, false, not, List, [], ◌∷◌, filter, cond, Option, None, Some, refl, sym}
+use Rattle.std.proofs.Common.{ap, subst, ◌∙◌, arith}
+use Rattle.std.proofs.{lemmas.Bool.eq-eqb, lemmas.Bool.eqb-true, lemmas.Bool.ne_eqb, lemmas.List.get_or-set_other}
 use Rattle.std.specs.Prelude.{◌==◌, find, is_some, nat_lt, replicate, slice_index_or, slice_set, if◌then◌else◌}
-use Rattle.std.proofs.lemmas.Bool.{eq-eqb, eqb-true, ne_eqb}
-use Rattle.std.proofs.lemmas.List.{get_or-set_other}
-use Rattle.desk_model.specs.Change.{put, remove}
-use Rattle.desk_model.specs.declared.objects.Nonce.{Nonce}
+use Rattle.desk_model.specs.{Change.put, Change.remove, declared.objects.Nonce.Nonce}
 use Rattle.model_laws.specs.Ordered.{Ascends}
-use Rattle.model_laws.proofs.Local.{find_kept}
-use Rattle.model_laws.proofs.RowLists.{Above, ascends_above}
+use Rattle.model_laws.proofs.{Local.find_kept, RowLists.Above, RowLists.ascends_above}
 use Rattle.desk_store.specs.Known.{AreThere, known_nonce, nonce_at, nonce_place, of_serial, without}
 
 -- ---- rows by number

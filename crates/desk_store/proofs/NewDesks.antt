@@ -1,17 +1,14 @@
 -- From the tables that are made to a desk.
 use Rattle.std.proofs.Common.{◌≡◌, ℕ, Bool, true, false, List, [], ◌∷◌, length, ap, refl, sym, subst, ◌∙◌}
-use Rattle.std.specs.Prelude.{◌==◌, ◌||◌, not}
 use Rattle.std.proofs.Math.Dec.{eqb-suc-zero}
+use Rattle.std.specs.Prelude.{◌==◌, ◌||◌, not}
 use Rattle.sqlite.specs.{Effect.Database, Schema.Schema, State.State, Tree.Trees}
-use Rattle.desk_model.specs.{Legal.Legal, History.first_history, Terms.Terms}
-use Rattle.desk_model.specs.Tables.{Tables, picture}
-use Rattle.sql_write.specs.Committing.{HasCommitted, IsLeft}
-use Rattle.sql_write.specs.Making.{MakesDesk, tables_of}
+use Rattle.desk_model.specs.{Legal.Legal, History.first_history, Terms.Terms, Tables.Tables, Tables.picture}
+use Rattle.sql_write.specs.{Committing.HasCommitted, Committing.IsLeft, Making.MakesDesk, Making.tables_of}
 use Rattle.sql_schema.specs.Schema.{no_schema}
 use Rattle.sql_tables.specs.Holds.{Holds}
 use Rattle.store_laws.proofs.FlatTexts.{picture_is_stored_book}
-use Rattle.desk_store.specs.Desks.{IsDesk}
-use Rattle.desk_store.specs.Making.{IsNewDesk, Makes, has_objects}
+use Rattle.desk_store.specs.{Desks.IsDesk, Making.IsNewDesk, Making.Makes, Making.has_objects}
 
 -- where neither is, each is not
 neither : (a b : Bool) → (a || b) ≡ false → (a ≡ false) × (b ≡ false)

@@ -2,23 +2,18 @@
 use Rattle.std.proofs.Common.{◌≡◌, Result, Ok, Err, inl, inr, sym, subst, ◌∙◌, arith}
 use Rattle.std.specs.Prelude.{IfOk, IsTrue, false}
 use Rattle.sqlite_disk.specs.Disk.{MoreFaults}
-use Rattle.sqlite.specs.Held.{Held, state}
-use Rattle.sqlite.specs.State.{State, HasCleanDisk, IsUnchanged, Survives}
-use Rattle.sqlite.specs.{Store.Ghosts, Tree.Trees}
+use Rattle.sqlite.specs.{Held.Held, Held.state, State.State, State.HasCleanDisk, State.IsUnchanged, State.Survives, Store.Ghosts, Tree.Trees}
 use Rattle.desk_model.specs.Tables.{Tables}
 use Rattle.sql_read.specs.{Held.ForHeld, Looking.LooksUp, declared.fault.ReadFault.ReadFault}
 use Rattle.store_book.specs.IsBook.{IsStoredBook}
 use Rattle.sql_write.specs.Committing.{GoesBack}
 use Rattle.sql_schema.specs.Stays.{Asks, Stays}
-use Rattle.store_api.specs.Sight.{Gives, Reads, Unchanged}
-use Rattle.store_api.specs.declared.fault.StorageFault.{StorageFault}
+use Rattle.store_api.specs.{Sight.Gives, Sight.Reads, Sight.Unchanged, declared.fault.StorageFault.StorageFault}
 use Rattle.store_api.specs.declared.fault.StorageFault.TheVariants as fault
 use Rattle.sql_schema.proofs.StaysLemmas.{asks_then}
 use Rattle.store_api.proofs.Readings.{reads_then, unchanged_here, unchanged_read}
-use Rattle.desk_store.specs.Causes.{FailsToLookUp, IsSilent}
 use Rattle.desk_store.specs.Desks.{HasDesk, HasTables, IsDesk, store_sight}
-use Rattle.desk_store.specs.Known.{IsKnownOf}
-use Rattle.desk_store.specs.declared.{known.Known.Known, store.Store.Store}
+use Rattle.desk_store.specs.{Causes.FailsToLookUp, Causes.IsSilent, Known.IsKnownOf, declared.known.Known.Known, declared.store.Store.Store}
 
 -- ---- states
 

@@ -2,24 +2,19 @@
 use Rattle.std.proofs.Common.{◌≡◌, ◌≤◌, Result, Ok, Err, inl, inr, true, false, Bool, arith, refl, subst, ap, sym, ◌∙◌}
 use Rattle.std.specs.Prelude.{IfErr, IsTrue, ◌⊎◌}
 use Rattle.sqlite_disk.specs.Disk.{MoreFaults}
-use Rattle.sqlite.specs.{State.State, Schema.Schema}
-use Rattle.sqlite.specs.declared.error.Error.{Error}
+use Rattle.sqlite.specs.{State.State, Schema.Schema, declared.error.Error.Error, declared.error.ErrorCode.ErrorCode}
 use Rattle.sqlite.specs.declared.error.Error.TheVariants as error
-use Rattle.sqlite.specs.declared.error.ErrorCode.{ErrorCode}
 use Rattle.sqlite.specs.declared.error.ErrorCode.TheVariants as code
-use Rattle.sql_read.specs.Failures.{IsMet, IsOutOfMemory, is_of_device}
-use Rattle.sql_read.specs.LookUpFaults.{IsOfMemoryOrDisk}
-use Rattle.sql_read.specs.declared.fault.ReadFault.{ReadFault}
-use Rattle.sql_read.specs.declared.fault.ReadFault.TheVariants.{Engine, NotARow}
+use Rattle.sql_read.specs.{Failures.IsMet, Failures.IsOutOfMemory, Failures.is_of_device, LookUpFaults.IsOfMemoryOrDisk, declared.fault.ReadFault.ReadFault}
+use Rattle.sql_read.specs.{declared.fault.ReadFault.TheVariants.Engine, declared.fault.ReadFault.TheVariants.NotARow}
 use Rattle.sql_read.proofs.MetFaults.{met_on}
 use Rattle.sql_schema.specs.{Stays.Asks, Failing.IsFailure}
 use Rattle.store_api.specs.declared.fault.StorageFault.{StorageFault}
 use Rattle.store_api.specs.declared.fault.StorageFault.TheVariants as fault
 use Rattle.desk_store.specs.Causes.{IsMetFault, IsOfOpening, IsOfReading, IsOfStatement, cause_of}
-use Rattle.desk_store.specs.{Making.IsOfStorage, Making.has_objects, Opening.RefusesReading}
+use Rattle.desk_store.specs.{Making.IsOfStorage, Making.has_objects, Opening.RefusesReading, declared.faults.EngineCause.EngineCause}
+use Rattle.desk_store.specs.declared.open_fault.OpenFault.{OpenFault, TheVariants.NewerFormat, TheVariants.NotADesk, TheVariants.Storage}
 use Rattle.desk_store.specs.declared.faults.EngineCause.TheVariants as cause
-use Rattle.desk_store.specs.declared.{faults.EngineCause.EngineCause, open_fault.OpenFault.OpenFault}
-use Rattle.desk_store.specs.declared.open_fault.OpenFault.TheVariants.{NewerFormat, NotADesk, Storage}
 
 -- a failure of memory or of the disk is the store's
 pub failure_is_storage : (error : Error) (why : OpenFault) → IsFailure error → IsOfOpening (cause_of error) why → IsOfStorage why

@@ -1,13 +1,10 @@
 -- What an opening leaves behind a call that changed nothing.
 use Rattle.std.proofs.Common.{◌≡◌, Result, false, arith, ◌∙◌}
 use Rattle.sqlite.proofs.StateLemmas.{survives_then}
-use Rattle.sqlite.specs.Held.{Held, state}
-use Rattle.sqlite.specs.State.{HasCleanDisk, IsUnchanged}
-use Rattle.sqlite.specs.Store.{Ghosts}
+use Rattle.sqlite.specs.{Held.Held, Held.state, State.HasCleanDisk, State.IsUnchanged, Store.Ghosts}
 use Rattle.sql_read.proofs.Results.{unchanged_after}
 use Rattle.sql_schema.specs.Stays.{Asks}
-use Rattle.desk_store.specs.Opening.{OpensKnown}
-use Rattle.desk_store.specs.declared.open_fault.OpenFault.{OpenFault}
+use Rattle.desk_store.specs.{Opening.OpensKnown, declared.open_fault.OpenFault.OpenFault}
 use Rattle.desk_store.proofs.{Books.whole_still, Failing.opened_behind, NothingWritten.desk_unchanged, Upgrading.first_unchanged}
 use Rattle.desk_store.proofs.EitherFormat.{asks_behind, back_behind, first_still, keys_behind, of_answer, of_failure, of_faults, settled_behind}
 use Rattle.desk_store.proofs.EitherFormat.{upgraded_behind}

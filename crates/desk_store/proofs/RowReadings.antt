@@ -1,23 +1,17 @@
 -- What a reading of all rows says, in either format.
 use Rattle.std.proofs.Common.{◌≡◌, Result, inl, inr, arith}
 use Rattle.std.specs.Prelude.{◌⊎◌, IfErr, OnOk}
-use Rattle.sqlite.specs.Held.{Held, state}
-use Rattle.sqlite.specs.State.{State, HasCleanDisk, IsUnchanged}
-use Rattle.sqlite.specs.Store.{Ghosts}
-use Rattle.sqlite.specs.declared.error.Error.{Error}
+use Rattle.sqlite.specs.{Held.Held, Held.state, State.State, State.HasCleanDisk, State.IsUnchanged, Store.Ghosts, declared.error.Error.Error}
 use Rattle.desk_model.specs.Tables.{Tables}
 use Rattle.sql_read.specs.Failures.{IsMet}
 use Rattle.sql_schema.proofs.StaysLemmas.{asks_then}
 use Rattle.sql_schema.specs.{Failing.IsFailure, Stays.Asks}
 use Rattle.store_api.specs.declared.fault.StorageFault.TheVariants.{Memory}
-use Rattle.desk_store.specs.Causes.{IsOfOpening, cause_of}
-use Rattle.desk_store.specs.Opening.{ReadsRows}
+use Rattle.desk_store.specs.{Causes.IsOfOpening, Causes.cause_of, Opening.ReadsRows, declared.open_fault.OpenFault.OpenFault}
+use Rattle.desk_store.specs.{declared.open_fault.OpenFault.TheVariants.NotADesk, declared.open_fault.OpenFault.TheVariants.Storage}
 use Rattle.desk_store.specs.declared.faults.EngineCause.TheVariants as cause
-use Rattle.desk_store.specs.declared.open_fault.OpenFault.{OpenFault}
-use Rattle.desk_store.specs.declared.open_fault.OpenFault.TheVariants.{NotADesk, Storage}
-use Rattle.desk_store.proofs.{Books.always_ok, EitherFormat.of_faults}
 use Rattle.desk_store.proofs.OpeningFaults.{book_is_known, book_met, failure_is_storage, no_desk_is_other, none_has, opening_met, reading_is_known}
-use Rattle.desk_store.proofs.NothingWritten.{failed, same_fault}
+use Rattle.desk_store.proofs.{Books.always_ok, EitherFormat.of_faults, NothingWritten.failed, NothingWritten.same_fault}
 
 module _ {S : Type 0} (g : Ghosts S) {Has : State → Tables → Type 0} {Shows Lacks : Held S → Type 0} where
   -- where a reading failed

@@ -2,33 +2,24 @@
 use Rattle.std.proofs.Common.{◌≡◌, ℕ, ◌+◌, List, [], ◌∷◌, map, Option, Some, None, Bool, true, false, Result, Ok, Err, inl, inr, refl, sym, ap, subst, ◌∙◌}
 use Rattle.std.proofs.Common.{arith}
 use Rattle.std.proofs.lemmas.Bool.{eqb-true}
-use Rattle.std.specs.List.{filter}
-use Rattle.std.specs.Prelude.{◌⊎◌, ◌==◌, IfSome, cond, find, option_map}
-use Rattle.sqlite.specs.{Effect.Database, Held.state, Store.Ghosts, Tree.Trees}
-use Rattle.sqlite.specs.State.{State, HasCleanDisk, IsUnchanged, Survives}
+use Rattle.std.specs.{List.filter, Prelude.◌⊎◌, Prelude.◌==◌, Prelude.IfSome, Prelude.cond, Prelude.find, Prelude.option_map}
+use Rattle.sqlite.specs.{Effect.Database, Held.state, Store.Ghosts, Tree.Trees, State.State, State.HasCleanDisk, State.IsUnchanged, State.Survives}
 use Rattle.sqlite.proofs.StateLemmas.{survives_then}
-use Rattle.model_laws.proofs.Basics.{each, find-map}
-use Rattle.model_laws.proofs.RowLists.{Above, ascends_above}
+use Rattle.model_laws.proofs.{Basics.each, Basics.find-map, RowLists.Above, RowLists.ascends_above}
 use Rattle.model_laws.specs.Ordered.{Ascends}
-use Rattle.desk_model.specs.{Change.applied, Tables.Tables}
-use Rattle.desk_model.specs.declared.rows.{AccountRow.AccountRow, AuthorizationRow.AuthorizationRow, ChallengeRow.ChallengeRow, Change.Change}
-use Rattle.desk_model.specs.declared.rows.{OrderRow.OrderRow}
-use Rattle.sql_write.specs.Committing.{GoesBack, HasCommitted, IsBeforeCommit, IsLeft}
-use Rattle.sql_write.specs.declared.fault.SaveFault.{SaveFault}
+use Rattle.desk_model.specs.{Change.applied, Tables.Tables, declared.rows.AccountRow.AccountRow, declared.rows.AuthorizationRow.AuthorizationRow}
+use Rattle.desk_model.specs.{declared.rows.ChallengeRow.ChallengeRow, declared.rows.Change.Change, declared.rows.OrderRow.OrderRow}
+use Rattle.sql_write.specs.{Committing.GoesBack, Committing.HasCommitted, Committing.IsBeforeCommit, Committing.IsLeft, declared.fault.SaveFault.SaveFault}
+use Rattle.sql_write.specs.{Fitting.FitAfter, Fitting.Saves as Puts, Stored.HasSome, Stored.IsRow, Stored.IsMadeAs, Stored.AreFound, Stored.IsPartOf}
 use Rattle.sql_schema.specs.Stays.{Asks}
-use Rattle.sql_write.specs.Fitting.{FitAfter, Saves as Puts}
-use Rattle.sql_write.specs.Stored.{HasSome, IsRow, IsMadeAs, AreFound, IsPartOf}
 use Rattle.model_lives.specs.Thinned.{with_challenges, with_orders}
 use Rattle.model_lives.proofs.Lists.{filtered_each}
 use Rattle.sql_write.proofs.{StoredRows.all_of, Numbered.find_none, OrderedFit.ordered_fit}
-use Rattle.store_api.specs.Sight.{Sight}
 use Rattle.store_api.specs.Storing.{Fit, HasChanges, HasSaved, IsCutFrom, SavesOf}
-use Rattle.store_api.specs.declared.fault.StorageFault.{StorageFault}
+use Rattle.store_api.specs.{Sight.Sight, declared.fault.StorageFault.StorageFault}
 use Rattle.store_api.specs.declared.fault.StorageFault.TheVariants as fault
 use Rattle.desk_store.proofs.NothingWritten.{desk_back, desk_unchanged, failed, honest_by, unchanged_by}
-use Rattle.desk_store.specs.Desks.{IsDesk, store_sight}
-use Rattle.desk_store.specs.Known.{IsKnownOf}
-use Rattle.desk_store.specs.declared.store.Store.{Store}
+use Rattle.desk_store.specs.{Desks.IsDesk, Desks.store_sight, Known.IsKnownOf, declared.store.Store.Store}
 use Rattle.sql_tables.specs.Holds.{AreRising}
 
 -- the changes may be saved

@@ -5,9 +5,7 @@ use Rattle.sqlite_schema.specs.declared.schema.Schema.{Schema}
 use Rattle.sqlite_tied.specs.Compute.{everything}
 use Rattle.sqlite_trees.specs.declared.error.StoreError.{StoreError}
 use Rattle.sqlite_trees.specs.declared.error.StoreError.TheVariants as store
-use Rattle.sqlite.specs.{Listing.understood, Order.Row}
-use Rattle.sqlite.specs.State.{State, IsNotRun, IsUnchanged, store_error}
-use Rattle.sqlite.specs.declared.error.Error.{Error}
+use Rattle.sqlite.specs.{Listing.understood, Order.Row, State.State, State.IsNotRun, State.IsUnchanged, State.store_error, declared.error.Error.Error}
 use Rattle.desk_store.specs.{Asked.tells_open, Causes.IsSilent}
 
 -- the word is none, whatever the schema is

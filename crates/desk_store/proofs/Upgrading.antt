@@ -6,8 +6,7 @@ use Rattle.desk_model.specs.Tables.{Tables}
 use Rattle.sql_schema.specs.Stays.{Asks}
 use Rattle.sql_write.specs.Committing.{IsLeft}
 use Rattle.desk_store.specs.Desks.{AreOfDesk}
-use Rattle.sql_upgrade.specs.FirstDesks.{HasFirst, IsAdded, IsFirstDesk, UpgradesDesk}
-use Rattle.sql_upgrade.specs.declared.additions.Additions.{Additions}
+use Rattle.sql_upgrade.specs.{FirstDesks.HasFirst, FirstDesks.IsAdded, FirstDesks.IsFirstDesk, FirstDesks.UpgradesDesk, declared.additions.Additions.Additions}
 
 -- a call that changed nothing leaves the desk in format 1
 pub first_unchanged : (old new : State) (T : Tables) → new.step_limit ≡ old.step_limit → IsUnchanged old new → HasFirst old T → HasFirst new T

@@ -1,27 +1,19 @@
 -- Which fault an error of the engine is.
 use Rattle.std.specs.Prelude.{◌≡◌, ◌⊎◌, List, false, Option, None, Some}
 use Rattle.sqlite_disk.specs.Disk.{MoreFaults}
-use Rattle.sqlite.specs.Held.{Held, state}
 use Rattle.sqlite.specs.State.{State, Fails, HasCleanDisk}
-use Rattle.sqlite.specs.{Store.Ghosts, Tree.Trees}
-use Rattle.sqlite.specs.declared.error.{Error.Error, Error.TheVariants.SqliteFailure}
+use Rattle.sqlite.specs.{Held.Held, Held.state, Store.Ghosts, Tree.Trees, declared.error.Error.Error, declared.error.Error.TheVariants.SqliteFailure}
 use Rattle.sqlite.specs.declared.error.ErrorCode.TheVariants as code
-use Rattle.desk_model.specs.{Kept.EachOf, Tables.Tables}
-use Rattle.desk_model.specs.declared.rows.Change.{Change}
-use Rattle.sql_read.specs.declared.fault.ReadFault.{ReadFault}
-use Rattle.sql_read.specs.declared.fault.ReadFault.TheVariants.{Engine, NotARow}
-use Rattle.sql_write.specs.{Committing.IsBeforeCommit, Numbers.FitsColumns, Refusals.IsCause}
+use Rattle.desk_model.specs.{Kept.EachOf, Tables.Tables, declared.rows.Change.Change}
+use Rattle.sql_read.specs.{declared.fault.ReadFault.ReadFault, declared.fault.ReadFault.TheVariants.Engine, declared.fault.ReadFault.TheVariants.NotARow}
+use Rattle.sql_write.specs.{Committing.IsBeforeCommit, Numbers.FitsColumns, Refusals.IsCause, Statements.Sql, Statements.save_statements}
+use Rattle.sql_write.specs.declared.fault.{SaveFault.SaveFault, SaveFault.TheVariants.Row, SaveFault.TheVariants.Statement, SaveFault.TheVariants.Commit}
 use Rattle.sql_schema.specs.Stays.{Asks}
-use Rattle.sql_write.specs.Statements.{Sql, save_statements}
-use Rattle.sql_write.specs.declared.fault.SaveFault.{SaveFault}
-use Rattle.sql_write.specs.declared.fault.SaveFault.TheVariants.{Row, Statement, Commit}
-use Rattle.store_api.specs.Storing.{Saving}
-use Rattle.store_api.specs.declared.fault.StorageFault.{StorageFault}
+use Rattle.store_api.specs.{Storing.Saving, declared.fault.StorageFault.StorageFault}
 use Rattle.store_api.specs.declared.fault.StorageFault.TheVariants as fault
-use Rattle.desk_store.specs.declared.faults.EngineCause.{EngineCause}
-use Rattle.desk_store.specs.declared.faults.EngineCause.TheVariants as cause
-use Rattle.desk_store.specs.declared.open_fault.OpenFault.{OpenFault}
 use Rattle.desk_store.specs.declared.open_fault.OpenFault.TheVariants.{NotADesk, Storage}
+use Rattle.desk_store.specs.{declared.faults.EngineCause.EngineCause, declared.open_fault.OpenFault.OpenFault}
+use Rattle.desk_store.specs.declared.faults.EngineCause.TheVariants as cause
 use Rattle.sql_write.specs.declared.fault.WriteFault.TheVariants as write
 
 -- memory, the disk or a size, or anything else

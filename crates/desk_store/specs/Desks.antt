@@ -1,12 +1,9 @@
 -- When a connection holds a desk, and what a stop leaves of it.
 use Rattle.std.specs.Prelude.{◌≡◌, false, None, IsTrue}
-use Rattle.sqlite.specs.{Effect.Database, Held.state, Store.Ghosts, Tree.Trees}
-use Rattle.sqlite.specs.State.{State, HasCleanDisk}
-use Rattle.desk_model.specs.{Entry.History, Legal.Legal}
-use Rattle.desk_model.specs.Tables.{Tables, picture}
+use Rattle.sqlite.specs.{Effect.Database, Held.state, Store.Ghosts, Tree.Trees, State.State, State.HasCleanDisk}
+use Rattle.desk_model.specs.{Entry.History, Legal.Legal, Tables.Tables, Tables.picture}
 use Rattle.store_api.specs.Sight.{Sight}
-use Rattle.desk_store.specs.{Causes.FailsToLookUp, Known.IsKnownOf}
-use Rattle.desk_store.specs.declared.store.Store.{Store}
+use Rattle.desk_store.specs.{Causes.FailsToLookUp, Known.IsKnownOf, declared.store.Store.Store}
 use Rattle.sql_tables.specs.Holds.{Holds}
 use Rattle.store_book.specs.IsBook.{IsStoredBook}
 

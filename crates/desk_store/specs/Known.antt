@@ -1,9 +1,7 @@
 -- What a store knows of its tables without asking for it.
 use Rattle.std.specs.Prelude.{ℕ, ◌≡◌, ◌≤◌, ◌%◌, ◌==◌, List, Option, None, Some, IfSome, find, is_some, nat_le, replicate}
 use Rattle.std.specs.Prelude.{slice_index, slice_index_or, slice_set, if◌then◌else◌}
-use Rattle.desk_model.specs.Derived.{authz_code, order_code}
-use Rattle.desk_model.specs.{Kept.EachOf, Tables.Tables}
-use Rattle.desk_model.specs.declared.objects.Nonce.{Nonce}
+use Rattle.desk_model.specs.{Derived.authz_code, Derived.order_code, Kept.EachOf, Tables.Tables, declared.objects.Nonce.Nonce}
 use Rattle.desk_store.specs.declared.known.Known.{Known}
 
 -- no more than that no moment is before 0

@@ -1,14 +1,12 @@
 -- What making a desk leaves.
 use Rattle.std.specs.Prelude.{◌≡◌, ◌==◌, ◌||◌, ℕ, Bool, None, length, not}
 use Rattle.sqlite.specs.{Held.Held, Schema.Schema, State.State, Store.Ghosts, Tree.Trees}
-use Rattle.desk_model.specs.{History.first_history, Terms.Terms, Tables.picture}
-use Rattle.desk_model.specs.declared.rows.Meta.{Meta}
+use Rattle.desk_model.specs.{History.first_history, Terms.Terms, Tables.picture, declared.rows.Meta.Meta}
 use Rattle.sql_write.specs.{Statements.make_statements, Fits.FitsMeta}
 use Rattle.sql_schema.specs.Schema.{no_schema}
 use Rattle.store_api.specs.declared.fault.StorageFault.{StorageFault}
-use Rattle.desk_store.specs.Causes.{FailedToSave}
 use Rattle.desk_store.specs.Desks.{AreOfDesk, HasDesk}
-use Rattle.desk_store.specs.declared.open_fault.{OpenFault.OpenFault, OpenFault.TheVariants.Storage}
+use Rattle.desk_store.specs.{Causes.FailedToSave, declared.open_fault.OpenFault.OpenFault, declared.open_fault.OpenFault.TheVariants.Storage}
 
 -- a table, an index or a view is there
 abbrev pub has_objects : Schema → Bool

@@ -1,27 +1,19 @@
 -- What an opening finds, and what it leaves.
 use Rattle.std.specs.Prelude.{◌≡◌, ◌≢◌, ◌⊎◌, Err, IfErr, IsTrue, OnErr, OnOk, Result, false}
-use Rattle.sqlite.specs.Held.{Held, state}
 use Rattle.sqlite.specs.State.{State, HasCleanDisk, IsUnchanged, Survives}
-use Rattle.sqlite.specs.{Store.Ghosts, Tree.Trees}
-use Rattle.sqlite.specs.declared.error.Error.{Error}
+use Rattle.sqlite.specs.{Held.Held, Held.state, Store.Ghosts, Tree.Trees, declared.error.Error.Error}
 use Rattle.store_columns.specs.declared.columns.StoredRows.{StoredRows}
 use Rattle.desk_model.specs.Tables.{Tables}
-use Rattle.sql_read.specs.AllTables.{FailsAtFirst, FailsAtTable}
-use Rattle.sql_read.specs.{First.AreFirstShown, Failures.MayRead, Shown.AreShown}
-use Rattle.sql_read.specs.Only.{ShowsOnlyBook, ShowsOnlyFirstBook}
-use Rattle.sql_read.specs.Format.{FailsToShowFormat, IsNewer, IsOfLaterFormat, ShowsFormats}
+use Rattle.sql_read.specs.{AllTables.FailsAtFirst, AllTables.FailsAtTable, First.AreFirstShown, Failures.MayRead, Shown.AreShown, Only.ShowsOnlyBook}
+use Rattle.sql_read.specs.{Only.ShowsOnlyFirstBook, Format.FailsToShowFormat, Format.IsNewer, Format.IsOfLaterFormat, Format.ShowsFormats}
 use Rattle.sql_write.specs.{Committing.GoesBack, Numbers.FitsUpgrade, Statements.upgrade_statements}
-use Rattle.sql_schema.specs.Names.{has_all_indexes, uses_key_table}
-use Rattle.sql_schema.specs.Stays.{Asks}
+use Rattle.sql_schema.specs.{Names.has_all_indexes, Names.uses_key_table, Stays.Asks}
 use Rattle.store_api.specs.declared.fault.{StorageFault.StorageFault, StorageFault.TheVariants.Memory}
 use Rattle.desk_store.specs.Causes.{FailedToRead, FailedToSave, IsMetFault, LeavesNothing, cause_of}
-use Rattle.desk_store.specs.Desks.{AreOfDesk, HasDesk}
-use Rattle.desk_store.specs.Making.{IsOfStorage}
-use Rattle.desk_store.specs.declared.faults.EngineCause.TheVariants as cause
-use Rattle.desk_store.specs.declared.open_fault.OpenFault.{OpenFault}
 use Rattle.desk_store.specs.declared.open_fault.OpenFault.TheVariants.{NewerFormat, NotADesk, Storage}
-use Rattle.sql_upgrade.specs.FirstDesks.{HasFirst, HasSecond, IsAdded}
-use Rattle.sql_upgrade.specs.declared.additions.Additions.{Additions}
+use Rattle.desk_store.specs.{Desks.AreOfDesk, Desks.HasDesk, Making.IsOfStorage, declared.open_fault.OpenFault.OpenFault}
+use Rattle.desk_store.specs.declared.faults.EngineCause.TheVariants as cause
+use Rattle.sql_upgrade.specs.{FirstDesks.HasFirst, FirstDesks.HasSecond, FirstDesks.IsAdded, declared.additions.Additions.Additions}
 use Rattle.store_book.specs.IsBook.{IsBookOfStored}
 
 -- a reading failed so, for what is neither memory nor the disk

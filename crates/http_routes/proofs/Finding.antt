@@ -1,12 +1,10 @@
 -- The router of the desk finds each of its paths.
 use Rattle.std.proofs.Common.{◌≡◌, ℕ, suc, ◌<◌, ◌≤◌, List, [], ◌∷◌, ◌++◌, length, Some, refl, cond, codes, decimal, arith, ap, append-nil}
-use Rattle.std.specs.{Prelude.option_map, Str.Parse.AllDigits}
 use Rattle.std.proofs.lemmas.Fmt.{decimal_is_IsNumeral}
-use Rattle.matchit.specs.{Rows.RowsOf, Router.RouteOf, Route.scan}
-use Rattle.matchit.specs.Seek.{first, seek, param_step}
-use Rattle.http_routes.specs.Router.{add_route, desk_routes, value_of}
+use Rattle.std.specs.{Prelude.option_map, Str.Parse.AllDigits}
+use Rattle.matchit.specs.{Rows.RowsOf, Router.RouteOf, Route.scan, Seek.first, Seek.seek, Seek.param_step}
 use Rattle.http_routes.specs.Routes.{HasNumber, IsPathText, is_numbered, prefix, suffix}
-use Rattle.http_routes.specs.declared.routes.Route.{Route}
+use Rattle.http_routes.specs.{Router.add_route, Router.desk_routes, Router.value_of, declared.routes.Route.Route}
 use Rattle.http_routes.specs.declared.routes.Route.TheVariants as route
 use Rattle.http_routes.proofs.Seeking.{steps, seek_by, number_alone, number_at_end, number_before}
 use Rattle.desk_model.specs.Limits.{last_number}

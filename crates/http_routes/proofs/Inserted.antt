@@ -1,11 +1,8 @@
 -- What an insertion into the router leaves.
 use Rattle.std.proofs.Common.{◌≡◌, inl, inr, List, ℕ, subst}
 use Rattle.std.specs.Prelude.{Result, Ok, Err}
-use Rattle.matchit.specs.{Rows.RowsOf, declared.error.InsertError.InsertError}
-use Rattle.matchit.specs.Router.{RouteOf, InsertsRead}
-use Rattle.matchit.specs.Route.{Scan, parse_route}
-use Rattle.http_routes.specs.{Routes.text_of, declared.routes.Route.Route}
-use Rattle.http_routes.specs.Router.{on_scan, add_route}
+use Rattle.matchit.specs.{Rows.RowsOf, declared.error.InsertError.InsertError, Router.RouteOf, Router.InsertsRead, Route.Scan, Route.parse_route}
+use Rattle.http_routes.specs.{Routes.text_of, declared.routes.Route.Route, Router.on_scan, Router.add_route}
 
 -- what an insertion leaves of a route's text that was read
 on_scan_inserted : (scan : Result Scan InsertError) (v : Route) (old new : RowsOf (RouteOf Route)) (u : Unit {0})

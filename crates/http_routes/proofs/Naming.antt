@@ -1,9 +1,7 @@
 -- The status that a text names, and the names of members.
 use Rattle.std.proofs.Common.{◌≡◌, ◌≢◌, ℕ, List, [], ◌∷◌, Bool, true, false, cond, map, Option, Some, None, refl, sym, ap, ◌∙◌, subst}
-use Rattle.std.specs.Prelude.{◌&&◌, String, bytes_eq, find, string_bytes}
-use Rattle.std.specs.List.{list_all}
-use Rattle.std.specs.declared.alloc.Global.{Global}
 use Rattle.std.proofs.lemmas.Slice.Eq.{bytes_eq-Decides}
+use Rattle.std.specs.{Prelude.◌&&◌, Prelude.String, Prelude.bytes_eq, Prelude.find, Prelude.string_bytes, List.list_all, declared.alloc.Global.Global}
 use Rattle.serde_json.specs.{View.members_view, declared.value.Value.Value}
 use Rattle.desk_model.specs.{Document.order_status_text, Lookup.IsValueOf, declared.status.OrderStatus.OrderStatus}
 use Rattle.desk_model.specs.declared.status.OrderStatus.TheVariants as order

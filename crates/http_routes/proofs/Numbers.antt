@@ -2,9 +2,7 @@
 use Rattle.std.proofs.Common.{◌≡◌, ◌≢◌, ℕ, zero, suc, ◌<◌, ◌≤◌, ◌^◌, List, length, get_or, arith, sym, subst, ap, ◌∙◌, decimal}
 use Rattle.std.proofs.lemmas.Fmt.{parse-decimal, decimal_is_IsNumeral, decimal-digits_value, decimal_digit, first_decimal}
 use Rattle.std.proofs.lemmas.Str.Parse.{IsNumeralModel, numerals_by_value, tells_digits, digit_at, parse_plain}
-use Rattle.std.specs.{Int.IsInRange, Result.OkIff}
-use Rattle.std.specs.Prelude.{Result, Ok}
-use Rattle.std.specs.Str.Parse.{AllDigits, digits_value, ParsesUnsigned}
+use Rattle.std.specs.{Int.IsInRange, Result.OkIff, Prelude.Result, Prelude.Ok, Str.Parse.AllDigits, Str.Parse.digits_value, Str.Parse.ParsesUnsigned}
 use Rattle.http_routes.specs.Routes.{IsNumberText}
 use Rattle.desk_model.specs.Limits.{last_number}
 

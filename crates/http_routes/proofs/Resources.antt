@@ -1,12 +1,11 @@
 -- The resource of a path, by the route that the router finds.
 use Rattle.std.proofs.Common.{◌≡◌, ℕ, ◌<◌, ◌≤◌, ◌^◌, Bool, true, false, List, arith, sym, ◌∙◌, subst, Some, None, Option}
-use Rattle.std.specs.Prelude.{option_map}
 use Rattle.std.proofs.lemmas.Fmt.{decimal_injective}
+use Rattle.std.specs.Prelude.{option_map}
 use Rattle.matchit.specs.Seek.{first}
 use Rattle.http_routes.proofs.{Finding.desk_routes_are_found, Places.one_middle}
-use Rattle.http_routes.specs.Router.{desk_routes, value_of}
 use Rattle.http_routes.specs.Routes.{IsNumberText, IsPathText, IsResourceAt, is_numbered, prefix, resource_of, suffix}
-use Rattle.http_routes.specs.declared.routes.{Resource.Resource, Route.Route}
+use Rattle.http_routes.specs.{Router.desk_routes, Router.value_of, declared.routes.Resource.Resource, declared.routes.Route.Route}
 use Rattle.desk_model.specs.Limits.{last_number}
 
 -- a number of an object has 64 bits

@@ -1,8 +1,7 @@
 -- What a router finds: bytes one by one, and a number in the place of a parameter.
-use Rattle.std.proofs.Common.{◌≡◌, ◌≢◌, ℕ, zero, suc, ◌+◌, ◌-◌, ◌<◌, List, [], ◌∷◌, ◌++◌, length, drop, Some, None, Bool, true}
-use Rattle.std.proofs.Common.{false, cond, refl, sym, ap, ◌∙◌, arith, nat_eq, ◌==◌, ltb, ◌&&◌, append-nil}
-use Rattle.std.proofs.lemmas.Bool.{lt-ltb, ne_eqb}
-use Rattle.std.proofs.{lemmas.Bool.Decides.nat_tests, lemmas.List.length-append, Math.Seq.drop-append_seam}
+use Rattle.std.proofs.Common.{◌≡◌, ◌≢◌, ℕ, zero, suc, ◌+◌, ◌-◌, ◌<◌, List, [], ◌∷◌, ◌++◌, length, drop, Some, None, Bool, true, false, cond, refl, sym, ap, ◌∙◌}
+use Rattle.std.proofs.Common.{arith, nat_eq, ◌==◌, ltb, ◌&&◌, append-nil}
+use Rattle.std.proofs.{lemmas.Bool.lt-ltb, lemmas.Bool.ne_eqb, lemmas.Bool.Decides.nat_tests, lemmas.List.length-append, Math.Seq.drop-append_seam}
 use Rattle.std.specs.{Char.digit_value, Cmp.Lexicographic.pointwise, Str.Parse.AllDigits}
 use Rattle.matchit.specs.Rows.{RowsOf}
 use Rattle.matchit.specs.Seek.{cuts, has_slash, or_else, own, param_step, seek, segment, step}

@@ -3,9 +3,8 @@ use Rattle.std.proofs.Common.{◌≡◌, ◌++◌, ◌∙◌, ℕ, List, Some, O
 use Rattle.std.specs.Prelude.{IsUtf8, Option, None, codes}
 use Rattle.serde_json.specs.{Data.Data, Read.read}
 use Rattle.desk_model.specs.declared.call.{Ask.Ask, Target.Target}
-use Rattle.http_routes.specs.Envelopes.{Envelope, IsEnvelope, IsEnvelopeText, IsSignedAskIn}
-use Rattle.http_routes.specs.{Request.IsSignedAsk, declared.lines.Line.Line, declared.lines.LineFault.LineFault}
-use Rattle.http_routes.specs.Lines.{IsLine, IsNoLine, Spells, SpellsNone}
+use Rattle.http_routes.specs.{Envelopes.Envelope, Envelopes.IsEnvelope, Envelopes.IsEnvelopeText, Envelopes.IsSignedAskIn, Request.IsSignedAsk}
+use Rattle.http_routes.specs.{declared.lines.Line.Line, declared.lines.LineFault.LineFault, Lines.IsLine, Lines.IsNoLine, Lines.Spells, Lines.SpellsNone}
 use Rattle.http_routes.specs.declared.lines.LineFault.TheVariants as linefault
 
 -- bytes have one value

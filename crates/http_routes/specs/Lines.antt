@@ -1,8 +1,7 @@
 -- The lines of a batch: a call in, a reply out.
 use Rattle.std.specs.Prelude.{◌≡◌, ℕ, ◌++◌, List, Option, Some, None, Ok, codes, decimal, option_and_then, IsUtf8}
 use Rattle.hex.specs.Hex.{decode_of, encode_lower}
-use Rattle.serde_json.specs.{Data.Data, Read.read, Written.compact_text}
-use Rattle.serde_json.specs.Find.{get, as_number, as_u64}
+use Rattle.serde_json.specs.{Data.Data, Read.read, Written.compact_text, Find.get, Find.as_number, Find.as_u64}
 use Rattle.desk_model.specs.{Keys.text_member, Refusals.problem_document, declared.reply.Reply.Reply, declared.reply.Body.Body}
 use Rattle.desk_model.specs.declared.reply.Body.TheVariants as body
 use Rattle.http_routes.specs.declared.lines.{Line.Line, LineFault.LineFault}

@@ -1,10 +1,8 @@
 -- What a body asks to be shown: the report that a JSON object names, and the rows that its other members ask for.
-use Rattle.std.specs.Prelude.{ℕ, List, [], ◌∷◌, Bool, ◌&&◌, ◌||◌, nat_le, codes, bytes_eq, Option, Some, None, option_map, option_and_then, find}
-use Rattle.std.specs.Prelude.{if◌then◌else◌}
+use Rattle.std.specs.Prelude.{ℕ, List, [], ◌∷◌, Bool, ◌&&◌, ◌||◌, nat_le, codes, bytes_eq, Option, Some, None, option_map, option_and_then, find, if◌then◌else◌}
 use Rattle.std.specs.List.{list_all}
-use Rattle.serde_json.specs.Data.{Data, Members, no_members, member}
 use Rattle.serde_json.specs.Find.{as_number, as_object, as_str, as_u64, get}
-use Rattle.serde_json.specs.Read.{read}
+use Rattle.serde_json.specs.{Data.Data, Data.Members, Data.no_members, Data.member, Read.read}
 use Rattle.desk_model.specs.{Document.order_status_text, Keys.text_member, Limits.last_number, Lookup.holds, Name.Name, Names.name_of}
 use Rattle.desk_model.specs.declared.status.OrderStatus.{OrderStatus}
 use Rattle.desk_model.specs.declared.status.OrderStatus.TheVariants as order

@@ -1,7 +1,6 @@
 -- What office requests hand in, by their bodies; the problem of an order stands in json_texts.
 use Rattle.std.specs.Prelude.{ℕ, List, codes, bytes_eq, Option, Some, None, option_map, option_and_then, if◌then◌else◌}
-use Rattle.serde_json.specs.{Data.Data, Read.read}
-use Rattle.serde_json.specs.Find.{get, as_str}
+use Rattle.serde_json.specs.{Data.Data, Read.read, Find.get, Find.as_str}
 use Rattle.desk_model.specs.{Payload.texts_in, Tokens.from_base64url, declared.call.FetchError.FetchError, declared.call.Finding.Finding}
 use Rattle.desk_model.specs.declared.call.FetchError.TheVariants as error
 use Rattle.desk_model.specs.declared.call.Finding.TheVariants as found

@@ -6,12 +6,10 @@ use Rattle.desk_model.specs.declared.call.Ask.TheVariants as ask
 use Rattle.desk_model.specs.declared.call.OfficeAsk.TheVariants as asks
 use Rattle.desk_model.specs.declared.reply.Allow.TheVariants as allow
 use Rattle.json_texts.specs.{Problems.order_problem, RefusalReplies.refusal_reply}
-use Rattle.http_routes.specs.Envelopes.{Envelope, IsEnvelopeText, IsSigned}
-use Rattle.http_routes.specs.{Looked.report, Offices.finding, declared.request.Place.Place, declared.request.RequestRefusal.RequestRefusal}
-use Rattle.http_routes.specs.declared.looked.Looked.{Looked}
+use Rattle.http_routes.specs.{Envelopes.Envelope, Envelopes.IsEnvelopeText, Envelopes.IsSigned, Looked.report, Offices.finding, declared.request.Place.Place}
+use Rattle.http_routes.specs.{declared.request.RequestRefusal.RequestRefusal, declared.looked.Looked.Looked, declared.routes.OfficeResource.OfficeResource}
+use Rattle.http_routes.specs.{declared.routes.Resource.Resource, Routes.IsResourceAt, Routes.has_index, Routes.methods_of, Routes.serves}
 use Rattle.http_routes.specs.declared.looked.Looked.TheVariants as looked
-use Rattle.http_routes.specs.declared.routes.{OfficeResource.OfficeResource, Resource.Resource}
-use Rattle.http_routes.specs.Routes.{IsResourceAt, has_index, methods_of, serves}
 use Rattle.http_routes.specs.declared.request.Place.TheVariants as place
 use Rattle.http_routes.specs.declared.routes.OfficeResource.TheVariants as office
 use Rattle.http_routes.specs.declared.routes.Resource.TheVariants as resource

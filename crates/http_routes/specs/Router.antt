@@ -1,8 +1,6 @@
 -- The routes of the desk, as a router keeps them.
 use Rattle.std.specs.Prelude.{List, [], ◌∷◌, Result, Ok, Err}
-use Rattle.matchit.specs.{Rows.RowsOf, Order.placed, declared.error.InsertError.InsertError}
-use Rattle.matchit.specs.Router.{RouteOf, route_from}
-use Rattle.matchit.specs.Route.{parse_route, Scan}
+use Rattle.matchit.specs.{Rows.RowsOf, Order.placed, declared.error.InsertError.InsertError, Router.RouteOf, Router.route_from, Route.parse_route, Route.Scan}
 use Rattle.http_routes.specs.{Routes.text_of, declared.routes.Route.Route}
 use Rattle.http_routes.specs.declared.routes.Route.TheVariants as route
 

@@ -4,9 +4,8 @@ use Rattle.std.specs.Prelude.{IfOk, IfSome, option_map}
 use Rattle.http_routes.specs.Request.{IsAskIn, IsLookIn, IsServed}
 use Rattle.http_routes.specs.{Routes.has_index, declared.request.Request.Request, declared.routes.Resource.Resource}
 use Rattle.http_routes.specs.declared.request.Request.TheVariants as request
-use Rattle.http_wire.specs.{Framing.framing_for, declared.call.ParsedRequest.ParsedRequest}
-use Rattle.http_wire.specs.ParsedRequest.{IsAnswerTo, IsBody}
 use Rattle.http_wire.specs.Spelled.{IsRequestWith, asked, cut_short, looked, unread}
+use Rattle.http_wire.specs.{Framing.framing_for, declared.call.ParsedRequest.ParsedRequest, ParsedRequest.IsAnswerTo, ParsedRequest.IsBody}
 use Rattle.http_wire.specs.declared.body.Framing.TheVariants as frame
 
 -- what a served request asks by its body

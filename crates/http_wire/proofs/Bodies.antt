@@ -2,8 +2,7 @@
 use Rattle.std.proofs.Common.{◌≡◌, ◌<◌, ◌≤◌, ℕ, List, ◌++◌, take, drop, length, arith, sym, ◌∙◌, ap, Option, Some, None, Result}
 use Rattle.std.proofs.Common.{Ok, Err, append_assoc, append-nil}
 use Rattle.std.proofs.lemmas.List.{drop_all, length-append, length-take, take-append-le, take_all}
-use Rattle.std.specs.Prelude.{IfOk, IfSome, option_map}
-use Rattle.std.specs.Io.KnownBytes.{IsAtEnd}
+use Rattle.std.specs.{Prelude.IfOk, Prelude.IfSome, Prelude.option_map, Io.KnownBytes.IsAtEnd}
 use Rattle.http_wire.specs.{Head.Adds, ParsedRequest.IsBody}
 
 -- a body that was begun whole

@@ -1,11 +1,9 @@
 -- Bytes read in steps.
-use Rattle.std.proofs.Common.{◌≡◌, ◌≤◌, ◌+◌, ℕ, List, [], ◌++◌, take, drop, length, arith, sym, ◌∙◌, ap, Option, Some, None}
-use Rattle.std.proofs.Common.{Result, Ok, Err, append_assoc, append-nil}
-use Rattle.std.proofs.lemmas.List.{length-append, length-take}
-use Rattle.std.proofs.Math.Seq.{take-add}
+use Rattle.std.proofs.Common.{◌≡◌, ◌≤◌, ◌+◌, ℕ, List, [], ◌++◌, take, drop, length, arith, sym, ◌∙◌, ap, Option, Some, None, Result, Ok, Err, append_assoc}
+use Rattle.std.proofs.Common.{append-nil}
 use Rattle.std.proofs.KnownBytes.{Consumes-trans, Consumes-nil, Consumes-kept}
-use Rattle.std.specs.Prelude.{OnErr}
-use Rattle.std.specs.Io.KnownBytes.{Consumes, Keeps}
+use Rattle.std.proofs.{lemmas.List.length-append, lemmas.List.length-take, Math.Seq.take-add}
+use Rattle.std.specs.{Prelude.OnErr, Io.KnownBytes.Consumes, Io.KnownBytes.Keeps}
 use Rattle.http_wire.specs.Head.{Adds, TakesAtMost}
 
 -- bytes read behind earlier ones are consumed with them

@@ -1,13 +1,10 @@
 -- The values of a name, with one field more; tokens.
 use Rattle.std.proofs.Common.{◌≡◌, ◌<◌, ◌+◌, length, take, get_or, add-one, arith, ℕ, Bool, true, false, List, [], ◌∷◌, ◌++◌, map, refl, ap, ◌∙◌, sym}
-use Rattle.std.specs.List.{filter}
-use Rattle.std.specs.Prelude.{if◌then◌else◌, All, IsUtf8}
 use Rattle.std.proofs.{lemmas.List.map-append, lemmas.Bool.Decides.nat_tests, lemmas.Str.IsUtf8-from_ascii, lemmas.Str.Ascii.IsAscii-from_all}
-use Rattle.std.proofs.{Math.Seq.take-suc}
-use Rattle.std.proofs.lemmas.List.Elements.{All-weaker, filter-append}
+use Rattle.std.proofs.{Math.Seq.take-suc, lemmas.List.Elements.All-weaker, lemmas.List.Elements.filter-append}
+use Rattle.std.specs.{List.filter, Prelude.if◌then◌else◌, Prelude.All, Prelude.IsUtf8}
 use Rattle.httparse.specs.Spans.{IsHeaderWithin, IsRequestWithin, header_bytes, span_bytes}
-use Rattle.httparse.specs.declared.spans.{RequestSpans.RequestSpans, HeaderSpan.HeaderSpan}
-use Rattle.httparse.specs.Grammar.{IsToken, is_token_byte}
+use Rattle.httparse.specs.{declared.spans.RequestSpans.RequestSpans, declared.spans.HeaderSpan.HeaderSpan, Grammar.IsToken, Grammar.is_token_byte}
 use Rattle.http_wire.specs.Framing.{values_of, same_name}
 
 -- the values of one field, or of none

@@ -1,12 +1,9 @@
 -- Digits, one after another.
-use Rattle.std.proofs.Common.{◌≡◌, inl, inr, ◌+◌, ◌*◌, ◌<◌, ◌≤◌, ℕ, suc, Bool, true, false, List, [], ◌∷◌, take, length, get_or}
-use Rattle.std.proofs.Common.{arith, add-one, Some, None, refl, nat_lt}
-use Rattle.std.specs.Prelude.{if◌then◌else◌, ◌&&◌}
-use Rattle.std.specs.{List.list_all, Char.digit_value}
-use Rattle.std.proofs.{Math.Seq.take-suc, lemmas.List.take_all, lemmas.Bool.Decides.leb_tells, lemmas.List.Folds.list_all_at}
-use Rattle.std.proofs.lemmas.Bool.{lt-ltb, cases_lt}
-use Rattle.std.proofs.lemmas.Int.Digits.{digits_push, digits_value_more}
-use Rattle.std.specs.Str.Parse.{AllDigits, digits_value}
+use Rattle.std.proofs.Common.{◌≡◌, inl, inr, ◌+◌, ◌*◌, ◌<◌, ◌≤◌, ℕ, suc, Bool, true, false, List, [], ◌∷◌, take, length, get_or, arith, add-one, Some, None}
+use Rattle.std.proofs.Common.{refl, nat_lt}
+use Rattle.std.proofs.{Math.Seq.take-suc, lemmas.List.take_all, lemmas.Bool.Decides.leb_tells, lemmas.List.Folds.list_all_at, lemmas.Bool.lt-ltb}
+use Rattle.std.proofs.{lemmas.Bool.cases_lt, lemmas.Int.Digits.digits_push, lemmas.Int.Digits.digits_value_more}
+use Rattle.std.specs.{Prelude.if◌then◌else◌, Prelude.◌&&◌, List.list_all, Char.digit_value, Str.Parse.AllDigits, Str.Parse.digits_value}
 use Rattle.http_wire.specs.Framing.{is_digit, length_in, saturated}
 
 -- one digit more

@@ -4,8 +4,7 @@ use Rattle.desk_model.specs.Document.{challenge_document, challenge_url}
 use Rattle.desk_model.specs.{Keys.text_member, Tables.Tables, Terms.Terms, declared.entry.Outcome.Outcome, declared.objects.Report.Report}
 use Rattle.desk_model.specs.declared.rows.{ChallengeRow.ChallengeRow, DatedBytes.DatedBytes, DatedProblem.DatedProblem, OrderRow.OrderRow}
 use Rattle.desk_model.specs.declared.entry.Outcome.TheVariants.{Good, IncorrectResponse, Connection, Dns}
-use Rattle.http_wire.specs.UrlLaws.{DocumentsHaveUrls, RepliesNameUrls}
-use Rattle.http_wire.specs.ShownUrls.{HasDirectoryUrls, HasOrderUrls}
+use Rattle.http_wire.specs.{UrlLaws.DocumentsHaveUrls, UrlLaws.RepliesNameUrls, ShownUrls.HasDirectoryUrls, ShownUrls.HasOrderUrls}
 
 -- the directory has its URLs
 directory_urls : (t : Terms) → HasDirectoryUrls t

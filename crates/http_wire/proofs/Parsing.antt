@@ -3,8 +3,7 @@ use Rattle.std.proofs.Common.{◌≡◌, ◌+◌, ◌-◌, ◌<◌, ◌≤◌, �
 use Rattle.std.proofs.Common.{arith, sym, ◌∙◌, ap, Option, Some, None, Result, Ok, Err, append_assoc, append-nil, subst}
 use Rattle.std.proofs.lemmas.List.{take-append-drop, take-append-le, take_all, length-map, length-take}
 use Rattle.std.proofs.Math.Seq.{take-append_seam, take-append-add}
-use Rattle.std.specs.Prelude.{IfOk, IfSome}
-use Rattle.std.specs.Io.KnownBytes.{Consumes}
+use Rattle.std.specs.{Prelude.IfOk, Prelude.IfSome, Io.KnownBytes.Consumes}
 use Rattle.httparse.specs.Grammar.{RequestHead, print_request, HasNoRequest, Field}
 use Rattle.httparse.specs.Spans.{RequestOverflows, IsRequestAt, IsRequestWithin, header_bytes, name_and_value, span_bytes}
 use Rattle.httparse.specs.declared.spans.{HeaderSpan.HeaderSpan, RequestSpans.RequestSpans}
@@ -15,8 +14,8 @@ use Rattle.http_routes.specs.{Request.refused_request, declared.request.Request.
 use Rattle.http_routes.specs.declared.request.Request.TheVariants as request
 use Rattle.http_wire.specs.Head.{BeginsWith, HasNoHead, HeadSays, IsTooLarge, front, most_fields}
 use Rattle.http_wire.specs.{ParsedRequest.Parses, declared.call.ParsedRequest.ParsedRequest, declared.call.ReplyForm.ReplyForm}
-use Rattle.http_wire.specs.ParsedRequest as parsed
 use Rattle.http_wire.specs.Spelled.{IsReplyForm, IsRequestWith, Spells, form_by}
+use Rattle.http_wire.specs.ParsedRequest as parsed
 use Rattle.http_wire.specs.Spelled as spelled
 use Rattle.http_wire.specs.declared.call.HeadRead.TheVariants as read
 

@@ -1,10 +1,8 @@
 -- How long the body behind a head is, by its fields (RFC 9112, 6).
-use Rattle.std.specs.Prelude.{◌≡◌, ◌≤◌, ◌-◌, ◌^◌, ◌&&◌, ℕ, min, Bool, true, false, nat_lt, nat_le, List, [], ◌∷◌, map, length, Option, Some}
-use Rattle.std.specs.Prelude.{None, if◌then◌else◌, codes, bytes_eq}
-use Rattle.std.specs.Char.{digit_value, to_ascii_lowercase}
-use Rattle.std.specs.List.{filter, list_all}
-use Rattle.std.specs.Str.Parse.{digits_value}
-use Rattle.desk_model.specs.declared.reply.Allow.{Allow}
+use Rattle.std.specs.Prelude.{◌≡◌, ◌≤◌, ◌-◌, ◌^◌, ◌&&◌, ℕ, min, Bool, true, false, nat_lt, nat_le, List, [], ◌∷◌, map, length, Option, Some, None}
+use Rattle.std.specs.Prelude.{if◌then◌else◌, codes, bytes_eq}
+use Rattle.std.specs.{Char.digit_value, Char.to_ascii_lowercase, List.filter, List.list_all, Str.Parse.digits_value}
+use Rattle.desk_model.specs.{declared.reply.Allow.Allow, Limits.longest_body, Limits.longest_certificate}
 use Rattle.desk_model.specs.declared.reply.Allow.TheVariants as allow
 use Rattle.http_routes.specs.{Routes.methods_of, declared.routes.Resource.Resource}
 use Rattle.http_routes.specs.declared.routes.OfficeResource.TheVariants as office
@@ -12,7 +10,6 @@ use Rattle.http_routes.specs.declared.routes.Resource.TheVariants as resource
 use Rattle.http_wire.specs.declared.body.{Found.Found, Framing.Framing}
 use Rattle.http_wire.specs.declared.body.Found.TheVariants as found
 use Rattle.http_wire.specs.declared.body.Framing.TheVariants as frame
-use Rattle.desk_model.specs.Limits.{longest_body, longest_certificate}
 
 -- names of fields are the same in any case (RFC 9110, 5.1)
 abbrev pub same_name : List ℕ → List ℕ → Bool

@@ -2,8 +2,7 @@
 use Rattle.std.specs.Prelude.{◌≡◌, ◌<◌, ◌≤◌, ◌⊎◌, ◌++◌, ℕ, List, Option, take, length}
 use Rattle.std.specs.Io.KnownBytes.{Consumes, IsAtEnd}
 use Rattle.httparse.specs.Grammar.{RequestHead, ReadsRequest, HasNoRequest, MayBecomeRequest, print_request}
-use Rattle.httparse.specs.Spans.{IsRequestOf, IsRequestWithin, RequestOverflows}
-use Rattle.httparse.specs.declared.spans.HeaderSpan.{HeaderSpan}
+use Rattle.httparse.specs.{Spans.IsRequestOf, Spans.IsRequestWithin, Spans.RequestOverflows, declared.spans.HeaderSpan.HeaderSpan}
 use Rattle.http_wire.specs.declared.call.HeadRead.{HeadRead}
 use Rattle.http_wire.specs.declared.call.HeadRead.TheVariants as read
 use Rattle.desk_model.specs.Limits.{longest_head}

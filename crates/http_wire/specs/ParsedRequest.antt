@@ -1,7 +1,6 @@
 -- What was read of a request.
 use Rattle.std.specs.Prelude.{◌≡◌, ◌<◌, ◌≤◌, ◌++◌, ℕ, Bool, List, take, drop, length, map, Option, Some, None, IfOk}
-use Rattle.httparse.specs.Spans.{header_bytes, span_bytes}
-use Rattle.httparse.specs.declared.spans.{HeaderSpan.HeaderSpan, RequestSpans.RequestSpans}
+use Rattle.httparse.specs.{Spans.header_bytes, Spans.span_bytes, declared.spans.HeaderSpan.HeaderSpan, declared.spans.RequestSpans.RequestSpans}
 use Rattle.desk_model.specs.declared.refusal.Refusal.TheVariants as refusal
 use Rattle.desk_model.specs.declared.reply.Allow.TheVariants as allow
 use Rattle.http_routes.specs.Request.{IsAskIn, IsLookIn, IsServed, refused_request}

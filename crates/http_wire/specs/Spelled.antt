@@ -8,8 +8,7 @@ use Rattle.http_routes.specs.Request.{IsAskIn, IsLookIn, IsServed, IsUnserved, r
 use Rattle.http_routes.specs.Routes.{has_index}
 use Rattle.http_routes.specs.declared.{looked.Looked.Looked, request.Request.Request, request.RequestRefusal.RequestRefusal, routes.Resource.Resource}
 use Rattle.http_routes.specs.declared.request.Request.TheVariants as request
-use Rattle.http_wire.specs.{Framing.framing_for, declared.call.ReplyForm.ReplyForm}
-use Rattle.http_wire.specs.Head.{BeginsWith, HasNoHead, IsMalformed, IsTooLarge}
+use Rattle.http_wire.specs.{Framing.framing_for, declared.call.ReplyForm.ReplyForm, Head.BeginsWith, Head.HasNoHead, Head.IsMalformed, Head.IsTooLarge}
 use Rattle.http_wire.specs.declared.body.Framing.TheVariants as frame
 
 -- what a request asks by its method, its path, its fields and what follows them, or how it is refused:

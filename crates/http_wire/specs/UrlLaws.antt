@@ -1,8 +1,7 @@
 -- The laws of the URLs that the desk shows.
 use Rattle.std.specs.Prelude.{ℕ, ◌≤◌}
 use Rattle.desk_model.specs.{Limits.last_number, Tables.Tables, Terms.Terms}
-use Rattle.http_wire.specs.Served.{AreServed}
-use Rattle.http_wire.specs.ShownUrls.{HaveUrls, NameUrls}
+use Rattle.http_wire.specs.{Served.AreServed, ShownUrls.HaveUrls, ShownUrls.NameUrls}
 
 -- each URL is served as what it is meant for, under any terms and for every number that an object may have
 abbrev pub ShownUrlsAreServed : Type 0

@@ -1,48 +1,27 @@
 -- Names that keep their first place.
-use Rattle.std.proofs.Common.{◌≡◌, Bool, true, false, cond, not, ◌&&◌, ◌||◌, List, [], ◌∷◌, ◌++◌, refl, sym, ap, ◌∙◌}
-use Rattle.std.specs.Prelude.{bytes_eq}
+use Rattle.std.proofs.Common.{◌≡◌, Bool, true, false, cond, not, ◌&&◌, ◌||◌, List, [], ◌∷◌, ◌++◌, refl, sym, ap, ◌∙◌, arith, rules}
+use Rattle.std.proofs.{lemmas.List.append-nil, lemmas.Slice.Eq.bytes_eq-Decides, lemmas.Bool.Decides.nat_tests}
 use Rattle.std.specs.List.{filter, list_any}
-use Rattle.std.proofs.lemmas.{List.append-nil, Slice.Eq.bytes_eq-Decides}
-use Rattle.desk_model.specs.Name.{Name, same_bool, same_name}
-use Rattle.desk_model.specs.Rules.{kept}
+use Rattle.desk_model.specs.{Name.Name, Name.same_bool, Name.same_name, Rules.kept}
 
 true_parts : (a b : Bool) → (a && b) ≡ true → (a ≡ true) × (b ≡ true)
-true_parts true b e = (refl, e)
-true_parts false b e = cc e
+true_parts a b h = grind (arith, nat_tests)
 
 same_mark : (a b : Bool) → same_bool a b ≡ true → a ≡ b
-same_mark true b e = sym e
-same_mark false true e = cc e
-same_mark false false e = refl
+same_mark a b h = grind (arith, nat_tests)
 
 -- names that are the same are equal
 pub same_names : (n m : Name) → same_name n m ≡ true → n ≡ m
-same_names n m e =
-    let parts = true_parts (bytes_eq n.base m.base) (same_bool n.wildcard m.wildcard) e in
-    let base : n.base ≡ m.base = (bytes_eq-Decides n.base m.base).0 parts.0 in
-    let mark : n.wildcard ≡ m.wildcard = same_mark n.wildcard m.wildcard parts.1 in
-    λ i. record { base = base i; wildcard = mark i }
+same_names n m e = grind (arith, nat_tests, true_parts, bytes_eq-Decides, same_mark)
 
 filter-append : {X : Type 0} (p : X → Bool) (xs : List X) (x : X) → filter p (xs ++ x ∷ []) ≡ filter p xs ++ cond (p x) (x ∷ []) []
 filter-append p [] x = refl
-filter-append {X} p (y ∷ ys) x = by (p y) (filter-append p ys x)
-  where
-    by : (b : Bool) → filter p (ys ++ x ∷ []) ≡ filter p ys ++ cond (p x) (x ∷ []) [] →
-        cond b (y ∷ filter p (ys ++ x ∷ [])) (filter p (ys ++ x ∷ [])) ≡ cond b (y ∷ filter p ys) (filter p ys) ++ cond (p x) (x ∷ []) []
-    by true ih = ap (λ (l : List X). y ∷ l) ih
-    by false ih = ih
+filter-append {X} p (y ∷ ys) x = grind (arith, nat_tests, (filter-append p ys x))
 
 -- what passes the one test passes the other, so those that the other keeps answer as all
 any-filter : {X : Type 0} (p q : X → Bool) (xs : List X) → ((x : X) → p x ≡ true → q x ≡ true) → list_any p (filter q xs) ≡ list_any p xs
 any-filter p q [] h = refl
-any-filter {X} p q (x ∷ xs) h = by (p x) (q x) refl refl (any-filter p q xs h)
-  where
-    by : (b c : Bool) → p x ≡ b → q x ≡ c → list_any p (filter q xs) ≡ list_any p xs →
-        list_any p (cond c (x ∷ filter q xs) (filter q xs)) ≡ (b || list_any p xs)
-    by true true e f ih = ap (λ d. d || list_any p (filter q xs)) e
-    by true false e f ih = cc (h x e, f)
-    by false true e f ih = ap (λ d. d || list_any p (filter q xs)) e ∙ ih
-    by false false e f ih = ih
+any-filter {X} p q (x ∷ xs) h = grind (arith, nat_tests, (any-filter p q xs h))
 
 abbrev is_in : Name → List Name → Bool
 is_in x names = list_any (λ other. same_name other x) names
@@ -52,19 +31,11 @@ others n names = filter (λ other. not (same_name n other)) names
 
 -- a name that is the same as another is not the same as one that differs from it
 apart : (n x : Name) → same_name n x ≡ false → (o : Name) → same_name o x ≡ true → not (same_name n o) ≡ true
-apart n x e o f = by (same_name n o) refl
-  where
-    by : (b : Bool) → same_name n o ≡ b → not b ≡ true
-    by true g = let same : same_name n x ≡ same_name o x = ap (λ m. same_name m x) (same_names n o g) in cc
-    by false g = refl
+apart n x e o f = search (rules, same_names)
 
 -- one more among those that differ from a name
 others-last : (n x : Name) (ns : List Name) (b : Bool) → same_name n x ≡ b → others n (ns ++ x ∷ []) ≡ others n ns ++ cond b [] (x ∷ [])
-others-last n x ns b e = filter-append (λ other. not (same_name n other)) ns x ∙ by b e
-  where
-    by : (b : Bool) → same_name n x ≡ b → others n ns ++ cond (not (same_name n x)) (x ∷ []) [] ≡ others n ns ++ cond b [] (x ∷ [])
-    by true f = ap (λ d. others n ns ++ cond (not d) (x ∷ []) []) f
-    by false f = ap (λ d. others n ns ++ cond (not d) (x ∷ []) []) f
+others-last n x ns b e = grind (arith, nat_tests, filter-append)
 
 -- one more name is kept where none that was kept is the same
 pub kept-last : (ns : List Name) (x : Name) → kept (ns ++ x ∷ []) ≡ cond (list_any (λ other. same_name other x) (kept ns)) (kept ns) (kept ns ++ x ∷ [])
@@ -91,10 +62,7 @@ kept-last (n ∷ ns) x = by (same_name n x) refl (is_in x (kept ns)) refl (kept-
 pub kept-tested : (ns found there : List Name) (x y : Name) (b : Bool) → b ≡ list_any (λ other. same_name other y) there → y ≡ x
     → there ≡ found → found ≡ kept ns →
     kept (ns ++ x ∷ []) ≡ cond b (kept ns) (kept ns ++ x ∷ [])
-kept-tested ns found there x y b e is same known =
-    kept-last ns x
-    ∙ sym (ap (λ d. cond d (kept ns) (kept ns ++ x ∷ [])) (e ∙ ap (λ z. list_any (λ other. same_name other z) there) is
-    ∙ ap (λ l. list_any (λ other. same_name other x) l) (same ∙ known)))
+kept-tested ns found there x y b e is same known = grind (arith, nat_tests, kept-last)
 
 -- one that is new is kept
 pub kept-new : (ns found there : List Name) (x y : Name) (b : Bool) → b ≡ list_any (λ other. same_name other y) there → y ≡ x

@@ -1,9 +1,8 @@
 -- What the identifiers of an order stand for, by one more of them.
-use Rattle.std.proofs.Common.{◌≡◌, ◌<◌, ◌+◌, ℕ, List, [], ◌∷◌, ◌++◌, Option, Some, None, length, take, drop, get_or, refl, sym, ap, ◌∙◌, append_assoc}
-use Rattle.std.proofs.lemmas.List.{at_drop_more, take_more}
-use Rattle.desk_model.specs.{Name.Name, Names.name_of}
-use Rattle.desk_model.specs.Rules.{and_name, and_subproblem, fault_of, kept, names_in, subproblems}
-use Rattle.desk_model.specs.declared.{payload.Identifier.Identifier, refusal.Refusal.Refusal, reply.Subproblem.Subproblem}
+use Rattle.std.proofs.Common.{◌≡◌, ◌<◌, ◌+◌, ℕ, List, [], ◌∷◌, ◌++◌, Option, Some, None, length, take, drop, get_or, refl, sym, ap, ◌∙◌, append_assoc, arith}
+use Rattle.std.proofs.{lemmas.List.at_drop_more, lemmas.List.take_more, lemmas.Bool.Decides.nat_tests}
+use Rattle.desk_model.specs.{Name.Name, Names.name_of, Rules.and_subproblem, Rules.fault_of, Rules.kept, Rules.names_in, Rules.subproblems}
+use Rattle.desk_model.specs.{declared.payload.Identifier.Identifier, declared.refusal.Refusal.Refusal, declared.reply.Subproblem.Subproblem}
 
 -- the subproblems and the different names that were found in the first of some identifiers
 pub record AreFound (ids : List Identifier) (index : ℕ) (faulty : List Subproblem) (names : List Name) : Type 0 where
@@ -14,41 +13,24 @@ pub record AreFound (ids : List Identifier) (index : ℕ) (faulty : List Subprob
 subproblems-next : (ids : List Identifier) (index : ℕ) (id : Identifier) (why : Option Refusal) → index < length ids
     → id ≡ get_or ids index id → fault_of id ≡ why →
     subproblems (drop index ids) ≡ and_subproblem why id (subproblems (drop (index + 1) ids))
-subproblems-next ids index id why more is known =
-    at_drop_more subproblems ids index id more
-    ∙ ap (λ i. and_subproblem (fault_of i) i (subproblems (drop (index + 1) ids))) (sym is)
-    ∙ ap (λ o. and_subproblem o id (subproblems (drop (index + 1) ids))) known
+subproblems-next ids index id why more is known = grind (arith, nat_tests, at_drop_more, (at_drop_more subproblems ids index id more))
 
 names_in-append : (is js : List Identifier) → names_in (is ++ js) ≡ names_in is ++ names_in js
 names_in-append [] js = refl
-names_in-append (i ∷ is) js = by (name_of i.value) (names_in-append is js)
-  where
-    by : (o : Option Name) → names_in (is ++ js) ≡ names_in is ++ names_in js → and_name o (names_in (is ++ js)) ≡ and_name o (names_in is) ++ names_in js
-    by None ih = ih
-    by (Some name) ih = ap (λ (l : List Name). name ∷ l) ih
+names_in-append (i ∷ is) js = grind (arith, nat_tests, (names_in-append is js))
 
 -- the names of the first ones end with that of the last of these
 names_in-last : (ids : List Identifier) (index : ℕ) (id : Identifier) (name : Name) → index < length ids → id ≡ get_or ids index id
     → name_of id.value ≡ Some name →
     names_in (take (index + 1) ids) ≡ names_in (take index ids) ++ name ∷ []
-names_in-last ids index id name more is stands =
-    ap names_in (take_more ids index id more ∙ ap (λ i. take index ids ++ i ∷ []) (sym is))
-    ∙ names_in-append (take index ids) (id ∷ [])
-    ∙ ap (λ o. names_in (take index ids) ++ and_name o []) stands
+names_in-last ids index id name more is stands = grind (arith, nat_tests, take_more, names_in-append, (names_in-append (take index ids) (id ∷ [])))
 
 -- one more that stands for a name
 pub named-next : (ids : List Identifier) (index : ℕ) (id : Identifier) (name : Name) (faulty faulty_then : List Subproblem) (names names_then : List Name) →
     index < length ids → id ≡ get_or ids index id → fault_of id ≡ None → name_of id.value ≡ Some name → faulty_then ≡ faulty
     → ((before : List Name) → names ≡ kept before → names_then ≡ kept (before ++ name ∷ [])) →
     AreFound ids index faulty names → AreFound ids (index + 1) faulty_then names_then
-named-next ids index id name faulty faulty_then names names_then more is sound stands same keeps known =
-    record {
-      refused = ap (λ l. l ++ subproblems (drop (index + 1) ids)) same
-          ∙ ap (λ l. faulty ++ l) (sym (subproblems-next ids index id None more is sound)) ∙ known.refused;
-      named = λ none.
-          keeps (names_in (take index ids)) (known.named (sym same ∙ none))
-          ∙ ap kept (sym (names_in-last ids index id name more is stands));
-    }
+named-next ids index id name faulty faulty_then names names_then more is sound stands same keeps known = grind (arith, nat_tests, subproblems-next, names_in-last, (subproblems-next ids index id None more is sound), (names_in-last ids index id name more is stands))
 
 not_empty : {X : Type 0} {A : Type 0} (xs : List X) (x : X) → xs ++ x ∷ [] ≡ [] → A
 not_empty [] x none = cc

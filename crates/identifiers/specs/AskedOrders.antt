@@ -1,11 +1,9 @@
 -- What the payload of a newOrder asks for, as its identifiers are read once for the whole call (RFC 8555, 7.4).
 use Rattle.std.specs.Prelude.{ℕ, ◌≡◌, List, [], ◌∷◌, Option, Some, None, if◌then◌else◌, option_map}
-use Rattle.desk_model.specs.{Legal.has_length, Limits.most_names, Name.Name, Payload.new_order}
-use Rattle.desk_model.specs.Rules.{kept, names_in, subproblems}
-use Rattle.desk_model.specs.declared.{payload.Identifier.Identifier, call.Target.Target, reply.Subproblem.Subproblem}
+use Rattle.desk_model.specs.{Legal.has_length, Limits.most_names, Name.Name, Payload.new_order, Rules.kept, Rules.names_in, Rules.subproblems}
+use Rattle.desk_model.specs.{declared.payload.Identifier.Identifier, declared.call.Target.Target, declared.reply.Subproblem.Subproblem}
 use Rattle.desk_model.specs.declared.call.Target.TheVariants as to
-use Rattle.serde_json.specs.{Read.read, View.view}
-use Rattle.serde_json.specs.declared.value.Value.{Value}
+use Rattle.serde_json.specs.{Read.read, View.view, declared.value.Value.Value}
 use Rattle.identifiers.specs.declared.payloads.AskedOrder.{AskedOrder}
 use Rattle.identifiers.specs.declared.payloads.AskedOrder.TheVariants as order
 

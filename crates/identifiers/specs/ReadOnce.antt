@@ -1,7 +1,6 @@
 -- What is read once in a signed request: its nonce, and what it asks where it is for another key (RFC 8555, 6.5 and 7.3.5).
 use Rattle.std.specs.Prelude.{ℕ, List, Option, None, option_map}
-use Rattle.desk_model.specs.{Payload.key_change, Tokens.NonceText}
-use Rattle.desk_model.specs.declared.{call.Target.Target, payload.KeyChange.KeyChange}
+use Rattle.desk_model.specs.{Payload.key_change, Tokens.NonceText, declared.call.Target.Target, declared.payload.KeyChange.KeyChange}
 use Rattle.desk_model.specs.declared.call.Target.TheVariants as to
 
 -- a nonce that was read, as what its text spells

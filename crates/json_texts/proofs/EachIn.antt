@@ -1,22 +1,18 @@
 -- Items of a list that are read one by one.
 use Rattle.std.proofs.Common.{◌≡◌, ℕ, zero, suc, ◌+◌, ◌<◌, List, [], ◌∷◌, ◌++◌, length, take, get_or, Option, Some, None, refl, sym, ap, ◌∙◌, arith, add-one}
-use Rattle.std.proofs.{Math.Seq.take-suc, lemmas.Option.same_Some}
-use Rattle.serde_json.specs.Data.{Data}
-use Rattle.serde_json.specs.View.{view, items_view}
-use Rattle.serde_json.specs.declared.value.Value.{Value}
+use Rattle.std.proofs.{Math.Seq.take-suc, lemmas.Option.same_Some, lemmas.Bool.Decides.nat_tests}
+use Rattle.serde_json.specs.{Data.Data, View.view, View.items_view, declared.value.Value.Value}
 use Rattle.desk_model.specs.Payload.{and_each, each_in}
 
 none_stays : {X : Type 0} (o : Option X) → and_each o None ≡ None
-none_stays None = refl
-none_stays (Some x) = refl
+none_stays o = grind (arith, nat_tests)
 
 -- an item in another form spoils the list
 pub each_in-none : {X : Type 0} (form : Data → Option X) (vs : List Value) (i : ℕ) (v : Value) → i < length vs → v ≡ get_or vs i v → form (view v) ≡ None →
     each_in form (items_view vs) ≡ None
 each_in-none form [] i v lt is none = absurd (omega arith)
 each_in-none form (w ∷ ws) zero v lt is none = ap (λ o. and_each o (each_in form (items_view ws))) (ap (λ x. form (view x)) (sym is) ∙ none)
-each_in-none form (w ∷ ws) (suc i) v lt is none =
-    ap (λ o. and_each (form (view w)) o) (each_in-none form ws i v (omega arith) is none) ∙ none_stays (form (view w))
+each_in-none form (w ∷ ws) (suc i) v lt is none = grind (arith, nat_tests, none_stays, (each_in-none form ws i v (omega arith) is none))
 
 last_form : {X : Type 0} (form : Data → Option X) (vs : List Value) (v : Value) (xs : List X) (x : X)
     → each_in form (items_view vs) ≡ Some xs → form (view v) ≡ Some x →
@@ -29,9 +25,7 @@ last_form {X} form (w ∷ ws) v xs x read there =
         → ((ys : List X) → each_in form (items_view ws) ≡ Some ys → each_in form (items_view (ws ++ v ∷ [])) ≡ Some (ys ++ x ∷ []))
         → and_each o p ≡ Some xs
         → and_each o (each_in form (items_view (ws ++ v ∷ []))) ≡ Some (xs ++ x ∷ [])
-    by None p q ih e = cc e
-    by (Some y) None q ih e = cc e
-    by (Some y) (Some ys) q ih e = ap (λ p. and_each (Some y) p) (ih ys q) ∙ ap (λ (l : List X). Some (l ++ x ∷ [])) (same_Some (y ∷ ys) xs e)
+    by g p h k e = grind (arith, nat_tests, same_Some)
 
 -- one more item in the form
 pub each_in-last : {X : Type 0} (form : Data → Option X) (vs : List Value) (i : ℕ) (v : Value) (xs : List X) (x : X) → i < length vs → v ≡ get_or vs i v →

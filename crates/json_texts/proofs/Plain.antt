@@ -1,13 +1,11 @@
 -- The documents of refusals: their shapes, and that they are plain.
-use Rattle.std.proofs.Common.{◌≡◌, List, [], ◌∷◌, ◌++◌, map, codes, true, refl, ap}
-use Rattle.std.specs.Prelude.{◌&&◌}
-use Rattle.serde_json.specs.Data.{Members, object, put, string, unsigned}
+use Rattle.std.proofs.Common.{◌≡◌, List, [], ◌∷◌, ◌++◌, map, codes, true, refl, ap, arith}
+use Rattle.std.proofs.lemmas.Bool.Decides.{nat_tests}
+use Rattle.serde_json.specs.{Data.Members, Data.object, Data.put, Data.string, Data.unsigned, View.items_of}
 use Rattle.serde_json.specs.Data as json
-use Rattle.serde_json.specs.View.{items_of}
-use Rattle.desk_model.specs.declared.{refusal.Refusal.Refusal, reply.Problem.Problem, reply.Subproblem.Subproblem}
-use Rattle.desk_model.specs.Json.{document, list, members}
-use Rattle.desk_model.specs.Plain.{is_document, items_are_plain}
 use Rattle.desk_model.specs.Refusals.{refusal_of, error_type, problem_document, subproblem_document, subproblem_members}
+use Rattle.desk_model.specs.{declared.refusal.Refusal.Refusal, declared.reply.Problem.Problem, declared.reply.Subproblem.Subproblem, Json.document, Json.list}
+use Rattle.desk_model.specs.{Json.members, Plain.is_document, Plain.items_are_plain}
 use Rattle.json_texts.specs.Refused.{refusal_members, with_subproblems}
 
 -- a document of a refusal by its why and its subproblems
@@ -25,8 +23,7 @@ shaped why subproblems =
 members_by : (subproblems : List Subproblem) (detail status kind : json.Data) →
     with_subproblems subproblems (put (codes "status") status (members ((codes "detail", detail) ∷ (codes "type", kind) ∷ [])))
     ≡ members ((codes "detail", detail) ∷ (codes "status", status) ∷ (subproblem_members subproblems ++ (codes "type", kind) ∷ []))
-members_by [] detail status kind = refl
-members_by (s ∷ rest) detail status kind = refl
+members_by subproblems detail status kind = grind (arith, nat_tests)
 
 -- they make the document of a refusal
 pub problem-members : (p : Problem) →
@@ -37,8 +34,7 @@ problem-members p = ap object (members_by p.subproblems _ _ _)
 -- where there are some, they are put
 pub some_put : (subproblems : List Subproblem) (others : Members) → (subproblems ≡ [] → ⊥) →
     put (codes "subproblems") (list (map subproblem_document subproblems)) others ≡ with_subproblems subproblems others
-some_put [] others some = absurd (some refl)
-some_put (s ∷ rest) others some = refl
+some_put subproblems others h = grind (arith, nat_tests)
 
 -- the documents of refused identifiers are plain
 subproblems_plain : (subproblems : List Subproblem) → items_are_plain 6 (items_of (map subproblem_document subproblems)) ≡ true
@@ -47,8 +43,7 @@ subproblems_plain (s ∷ rest) = subproblems_plain rest
 
 -- so is the document of a refusal
 plain : (why : Refusal) (subproblems : List Subproblem) → is_document (shaped why subproblems) ≡ true
-plain why [] = refl
-plain why (s ∷ rest) = ap (λ b. b && true) (subproblems_plain rest)
+plain why subproblems = grind (arith, nat_tests, subproblems_plain)
 
 pub problem_plain : (p : Problem) → is_document (problem_document p) ≡ true
 problem_plain p = plain p.refusal p.subproblems

@@ -1,9 +1,7 @@
 -- Lists that hold no float.
 use Rattle.std.proofs.Common.{◌≡◌, ℕ, List, [], ◌∷◌, map, false, refl, ap, ◌∙◌}
 use Rattle.std.specs.Prelude.{◌||◌}
-use Rattle.serde_json.specs.Data.{Data, string}
-use Rattle.serde_json.specs.View.{items_of}
-use Rattle.serde_json.specs.Written.{has_float, items_have_float}
+use Rattle.serde_json.specs.{Data.Data, Data.string, View.items_of, Written.has_float, Written.items_have_float}
 use Rattle.desk_model.specs.Json.{list}
 
 -- a list whose items are made of others has no float where each of them has none

@@ -2,8 +2,7 @@
 use Rattle.std.proofs.Common.{◌≡◌, ℕ, List, [], ◌∷◌, ◌++◌, map, codes, true, ◌==◌, refl, sym, ap, ◌∙◌, append_assoc}
 use Rattle.std.proofs.lemmas.Bool.{and_parts, or_parts, not-true, eqb-false, ltb-false}
 use Rattle.std.specs.List.{list_all}
-use Rattle.json.specs.Print.{escape}
-use Rattle.json.specs.Run.{is_stop, is_plain}
+use Rattle.json.specs.{Print.escape, Run.is_stop, Run.is_plain}
 use Rattle.json.proofs.Printed.Strings.{escape_byte_plain}
 use Rattle.serde_json.specs.{Data.string, Written.compact_text}
 use Rattle.desk_model.specs.Json.{list}

@@ -1,17 +1,13 @@
 -- Values that are read without a map are those that `serde_json` reads.
-use Rattle.std.proofs.Common.{◌≡◌, ℕ, List, [], ◌∷◌, Bor, Vec, rules, Bool, true, false, Option, Some, None, option_map, bytes_eq}
-use Rattle.std.proofs.Common.{cond, refl, sym, ap, subst, ◌∙◌}
-use Rattle.std.specs.Prelude.{◌&&◌, option_and_then}
-use Rattle.std.specs.List.{list_all}
-use Rattle.std.proofs.lemmas.Slice.Eq.{bytes_eq-Decides}
+use Rattle.std.proofs.Common.{◌≡◌, ℕ, List, [], ◌∷◌, Bor, Vec, rules, Bool, true, Option, Some, None, option_map, refl, sym, ap, ◌∙◌, arith}
+use Rattle.std.proofs.{lemmas.Slice.Eq.bytes_eq-Decides, lemmas.Bool.Decides.nat_tests}
+use Rattle.std.specs.{Prelude.◌&&◌, Prelude.option_and_then, List.list_all}
 use Rattle.json.specs.Json as json
 use Rattle.json.specs.Find as json_find
-use Rattle.json.specs.Lex.{tokens}
-use Rattle.json.specs.Value.{members_view, value_view}
 use Rattle.json.specs.declared.value.Value.{Value as TextValue, Object, the_lemmas}
-use Rattle.serde_json.specs.Data.{Data, object, Members, no_members, put}
-use Rattle.serde_json.specs.Find.{get, get_member}
-use Rattle.serde_json.specs.Read.{max_depth, of_json, of_members, read}
+use Rattle.json.specs.{Lex.tokens, Value.members_view, Value.value_view}
+use Rattle.serde_json.specs.Data.{Data, Members, put}
+use Rattle.serde_json.specs.{Find.get, Find.get_member, Read.max_depth, Read.of_json, Read.of_members, Read.read}
 use Rattle.serde_json.proofs.Views.{get_member-put, get_member-put_other}
 use Rattle.json_texts.specs.Objects.{are_shallow, are_texts, is_shallow, is_text, is_text_or_texts, plain_members, plain_value}
 
@@ -19,12 +15,10 @@ use Rattle.json_texts.specs.Objects.{are_shallow, are_texts, is_shallow, is_text
 
 -- a string
 text_read : (j : json.Json) → is_text j ≡ true → of_json j ≡ Some (plain_value j)
-text_read (json.string s) is = refl
-text_read _ is = absurd (let e = is in cc)
+text_read j h = grind (arith, nat_tests)
 
 both : (a b : Bool) → (a && b) ≡ true → (a ≡ true) × (b ≡ true)
-both true b is = (refl, is)
-both false b is = absurd (let e = is in cc)
+both a b h = grind (arith, nat_tests)
 
 -- strings
 texts_read : (ms : json.Members) (found : Members) → are_texts ms ≡ true → of_members ms found ≡ Some (plain_members ms found)
@@ -35,9 +29,7 @@ texts_read (json.member k j ms) found are =
 
 -- a string, or an object of strings
 member_read : (j : json.Json) → is_text_or_texts j ≡ true → of_json j ≡ Some (plain_value j)
-member_read (json.string s) is = refl
-member_read (json.object ms) is = ap (λ o. option_map object o) (texts_read ms no_members is)
-member_read _ is = absurd (let e = is in cc)
+member_read j h = grind (arith, nat_tests, texts_read)
 
 -- members
 shallow_members_read : (ms : json.Members) (found : Members) → are_shallow ms ≡ true → of_members ms found ≡ Some (plain_members ms found)
@@ -48,8 +40,7 @@ shallow_members_read (json.member k j ms) found are =
 
 -- an object of them
 pub shallow_read : (j : json.Json) → is_shallow j ≡ true → of_json j ≡ Some (plain_value j)
-shallow_read (json.object ms) is = ap (λ o. option_map object o) (shallow_members_read ms no_members is)
-shallow_read _ is = absurd (let e = is in cc)
+shallow_read j h = grind (arith, nat_tests, shallow_members_read)
 
 -- ---- members
 
@@ -62,35 +53,16 @@ or_before (Some j) before = Some (plain_value j)
 found_member : (name : List ℕ) (ms : json.Members) (found : Members)
     → get_member name (plain_members ms found) ≡ or_before (json_find.get_member name ms) (get_member name found)
 found_member name json.no_members found = refl
-found_member name (json.member k j ms) found =
-    found_member name ms (put k (plain_value j) found) ∙ by (json_find.get_member name ms) (bytes_eq k name) refl
-  where
-    by : (later : Option json.Json) (same : Bool) → bytes_eq k name ≡ same
-        → or_before later (get_member name (put k (plain_value j) found))
-        ≡ or_before (json_find.later_or later (cond same (Some j) None)) (get_member name found)
-    by (Some l) same is = refl
-    by None true is =
-        let one : k ≡ name = (bytes_eq-Decides k name).0 is in
-        subst (λ n. get_member n (put k (plain_value j) found) ≡ Some (plain_value j)) one (get_member-put k (plain_value j) found)
-    by None false is = get_member-put_other name k (plain_value j) found (λ one. absurd (let e = sym ((bytes_eq-Decides k name).1 (sym one)) ∙ is in cc))
+found_member name (json.member k j ms) found = found_member name ms (put k (plain_value j) found) ∙ grind (arith, nat_tests, bytes_eq-Decides, get_member-put, get_member-put_other)
 
 -- so it is found in the value as in what was read
 pub plain_get : (name : List ℕ) (j : json.Json) → get name (plain_value j) ≡ option_map plain_value (json_find.get name j)
-plain_get name (json.object ms) = found_member name ms no_members ∙ by (json_find.get_member name ms)
-  where
-    by : (o : Option json.Json) → or_before o None ≡ option_map plain_value o
-    by None = refl
-    by (Some j) = refl
-plain_get name _ = refl
+plain_get name j = grind (arith, nat_tests, found_member)
 
 -- as what is looked up there shows it
 pub member_found : {X : Type 0} (f : X → json.Json) (found : Option X) (name : List ℕ) (j : json.Json) → option_map f found ≡ json_find.get name j
     → option_map (λ x. plain_value (f x)) found ≡ get name (plain_value j)
-member_found {X} f found name j is = by found ∙ ap (option_map plain_value) is ∙ sym (plain_get name j)
-  where
-    by : (o : Option X) → option_map (λ x. plain_value (f x)) o ≡ option_map plain_value (option_map f o)
-    by None = refl
-    by (Some x) = refl
+member_found {X} f found name j is = grind (arith, nat_tests, plain_get)
 
 -- ---- what the code looks at
 

@@ -1,7 +1,6 @@
 -- What the shortest texts are read as.
 use Rattle.std.proofs.Common.{◌≡◌, [], codes, Some, None, refl}
-use Rattle.serde_json.specs.Data.{object, no_members}
-use Rattle.serde_json.specs.Read.{read}
+use Rattle.serde_json.specs.{Data.object, Data.no_members, Read.read}
 use Rattle.serde_json.proofs.OnLiterals.{serde_json_on_literals}
 
 -- no text is no JSON

@@ -1,8 +1,7 @@
 -- The problem of an order, by its text.
 use Rattle.std.specs.Prelude.{ℕ, List, codes, Option, option_and_then, option_map}
 use Rattle.serde_json.specs.{Data.Data, Read.read}
-use Rattle.desk_model.specs.Keys.{text_members}
-use Rattle.desk_model.specs.declared.call.OrderProblem.{OrderProblem}
+use Rattle.desk_model.specs.{Keys.text_members, declared.call.OrderProblem.OrderProblem}
 
 -- the problem of the members `type` and `detail` of a value, both of them strings
 abbrev pub order_problem_in : Data → Option OrderProblem

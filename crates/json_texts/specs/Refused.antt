@@ -1,9 +1,8 @@
 -- Parts of the documents of refusals.
 use Rattle.std.specs.Prelude.{ℕ, List, [], ◌∷◌, map, codes}
 use Rattle.serde_json.specs.Data.{Data, Members, string, put}
-use Rattle.desk_model.specs.declared.{refusal.Refusal.Refusal, reply.Subproblem.Subproblem}
-use Rattle.desk_model.specs.Json.{document, list}
 use Rattle.desk_model.specs.Refusals.{refusal_of, error_type, subproblem_document}
+use Rattle.desk_model.specs.{declared.refusal.Refusal.Refusal, declared.reply.Subproblem.Subproblem, Json.document, Json.list}
 
 -- the members that refusals and refused identifiers share
 abbrev pub refusal_members : Refusal → List (List ℕ × Data)

@@ -1,10 +1,9 @@
 -- A body matches one text at most.
-use Rattle.std.proofs.Common.{◌≡◌, ℕ, ◌+◌, ◌-◌, ◌<◌, ◌≤◌, true, false, List, [], ◌∷◌, ◌++◌, length, get_or, take, drop, refl, sym}
-use Rattle.std.proofs.Common.{ap, ◌∙◌, arith, length-append}
+use Rattle.std.proofs.Common.{◌≡◌, ℕ, ◌+◌, ◌-◌, ◌<◌, ◌≤◌, true, false, List, [], ◌∷◌, ◌++◌, length, get_or, take, drop, refl, sym, ap, ◌∙◌, arith}
+use Rattle.std.proofs.Common.{length-append}
 use Rattle.std.proofs.lemmas.List.{take-append-drop, get_or-take, length-take-le}
-use Rattle.std.proofs.{lemmas.Bool.lt-ltb, Math.Seq.get_or-append_seam}
+use Rattle.std.proofs.{lemmas.Bool.lt-ltb, Math.Seq.get_or-append_seam, lemmas.List.Elements.All-head, lemmas.List.Elements.All-tail}
 use Rattle.std.specs.Prelude.{IsTrue, All, nat_lt, ◌&&◌}
-use Rattle.std.proofs.lemmas.List.Elements.{All-head, All-tail}
 use Rattle.desk_model.specs.Tokens.{is_blank, IsBodyMatch}
 
 -- a blank

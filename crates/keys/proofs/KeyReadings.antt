@@ -1,32 +1,18 @@
 -- The key that is computed from a value is the one that the value spells.
-use Rattle.std.proofs.Common.{◌≡◌, ℕ, Bool, true, false, cond, List, Option, Some, None, refl, sym, ap, ◌∙◌, subst, inl, inr}
-use Rattle.std.specs.Prelude.{◌||◌, bytes_eq, codes, option_map}
+use Rattle.std.proofs.Common.{◌≡◌, ℕ, Bool, true, false, cond, List, Option, Some, None, refl, sym, ap, ◌∙◌, subst, arith}
 use Rattle.std.proofs.lemmas.Slice.Eq.{bytes_eq-Decides}
+use Rattle.std.specs.Prelude.{bytes_eq, codes, option_map}
 use Rattle.serde_json.specs.Data.{Data}
 use Rattle.desk_model.proofs.KeyShapes.{curve_known}
-use Rattle.desk_model.specs.Keys.{Key, ec, rsa, okp, IsCurve, IsKeyOf, canonical_text, ec_by, is_curve, key_in, key_of_type, number_member}
-use Rattle.desk_model.specs.Keys.{okp_by, rsa_by, text_member}
+use Rattle.desk_model.specs.Keys.{Key, ec, rsa, IsKeyOf, canonical_text, ec_by, is_curve, key_in, key_of_type, number_member, okp_by, rsa_by, text_member}
 use Rattle.desk_model.specs.Payload.{key_text_in}
-
--- ---- curves
-
--- a curve of the NIST is one of the three
-curve_served : (crv : List ℕ) → IsCurve crv → is_curve crv ≡ true
-curve_served crv (inl e) = subst (λ t. is_curve t ≡ true) (sym e) refl
-curve_served crv (inr (inl e)) = subst (λ t. is_curve t ≡ true) (sym e) refl
-curve_served crv (inr (inr e)) = subst (λ t. is_curve t ≡ true) (sym e) refl
 
 -- ---- keys
 
 -- the key that a value spells is computed
 key_computed : (d : Data) (k : Key) → IsKeyOf d k → key_in d ≡ Some k
 unfolding key_in
-key_computed d (ec crv x y) h =
-    ap (key_of_type d) h.0
-    ∙ (λ i. ec_by (h.1.0 i) (h.1.2 i) (h.1.3 i))
-    ∙ ap (λ b. cond b (Some (ec crv x y)) None) (curve_served crv h.1.1)
-key_computed d (rsa e n) h = ap (key_of_type d) h.0 ∙ (λ i. rsa_by (h.1.0 i) (h.1.1 i))
-key_computed d (okp x) h = ap (key_of_type d) h.0 ∙ (λ i. okp_by (h.1.0 i) (h.1.1 i))
+key_computed d k h = grind arith
 
 -- what is computed is a key that the value spells
 key_spelled : (d : Data) (k : Key) → key_in d ≡ Some k → IsKeyOf d k
@@ -52,15 +38,7 @@ key_spelled d k h = by (text_member (codes "kty") d) refl h
 
     of_okp : (crv x : Option (List ℕ)) → text_member (codes "kty") d ≡ Some (codes "OKP") → text_member (codes "crv") d ≡ crv →
         number_member (codes "x") d ≡ x → okp_by crv x ≡ Some k → IsKeyOf d k
-    of_okp None x t a b g = cc
-    of_okp (Some crv) None t a b g = cc
-    of_okp (Some crv) (Some x) t a b g = served (bytes_eq crv (codes "Ed25519")) refl g
-      where
-        served : (v : Bool) → bytes_eq crv (codes "Ed25519") ≡ v → cond v (Some (okp x)) None ≡ Some k → IsKeyOf d k
-        served true e g =
-            let same : okp x ≡ k = cc in
-            subst (IsKeyOf d) same (t, (a ∙ ap (λ s. Some s) ((bytes_eq-Decides crv (codes "Ed25519")).0 e), b))
-        served false e g = cc
+    of_okp i j u l w f = grind (arith, bytes_eq-Decides)
 
     by : (kty : Option (List ℕ)) → text_member (codes "kty") d ≡ kty → key_of_type d kty ≡ Some k → IsKeyOf d k
     by None e g = cc

@@ -1,21 +1,16 @@
 -- What the members of a key's value say of its text.
-use Rattle.std.proofs.Common.{◌≡◌, ℕ, Bool, true, false, List, Option, Some, None, refl, subst}
+use Rattle.std.proofs.Common.{◌≡◌, ℕ, Bool, List, Option, Some, None, rules}
 use Rattle.std.specs.Prelude.{IsTrue, option_and_then, if◌then◌else◌}
 use Rattle.serde_json.specs.Data.{Data}
 use Rattle.desk_model.specs.Keys.{Key, IsKey, IsKeyText, canonical_text, is_number_text, number_member, text_member}
 
 -- a number that is kept has the form of one
 kept : (s x : List ℕ) (b : Bool) → is_number_text s ≡ b → (if is_number_text s then Some s else None) ≡ Some x → IsTrue (is_number_text x)
-kept s x true e h =
-    let some : Some s ≡ Some x = rw e at h in
-    let same : s ≡ x = cc some in
-    subst (λ (l : List ℕ). IsTrue (is_number_text l)) same e
-kept s x false e h = let none : None ≡ Some x = rw e at h in absurd (cc none)
+kept s x b h k = search rules
 
 -- the same, of a string that may be absent
 number_by : (o : Option (List ℕ)) (x : List ℕ) → option_and_then (λ s. if is_number_text s then Some s else None) o ≡ Some x → IsTrue (is_number_text x)
-number_by None x h = absurd (cc h)
-number_by (Some s) x h = kept s x (is_number_text s) refl h
+number_by o x h = search rules
 
 -- the number of a member has the form of one
 pub is_number_of_member : (name : List ℕ) (d : Data) (x : List ℕ) → number_member name d ≡ Some x → IsTrue (is_number_text x)

@@ -1,13 +1,10 @@
 -- The function that finds the nonce of a text, and decoding into 24 bytes.
-use Rattle.std.proofs.Common.{◌≡◌, ℕ, take, drop, Bool, true, false, List, [], ◌∷◌, ◌++◌, length, refl, ap, ◌∙◌, arith, Option, Some, None}
+use Rattle.std.proofs.Common.{◌≡◌, ℕ, take, drop, List, [], ◌∷◌, ◌++◌, length, refl, ap, ◌∙◌, arith, Option, Some, None, rules}
+use Rattle.std.proofs.{lemmas.List.append-nil, lemmas.Bool.Decides.nat_tests}
 use Rattle.std.specs.Prelude.{◌==◌, replicate, option_and_then, if◌then◌else◌}
-use Rattle.std.specs.declared.result.Result.{Result}
-use Rattle.std.specs.declared.result.Result.TheVariants.{Ok, Err}
-use Rattle.std.proofs.lemmas.{List.append-nil, Bool.eqb-true}
-use Rattle.std.specs.Int.{w64, from_be_bytes}
-use Rattle.base64.specs.declared.decode.DecodeError.{DecodeError}
+use Rattle.std.specs.{declared.result.Result.Result, declared.result.Result.TheVariants.Ok, declared.result.Result.TheVariants.Err, Int.w64, Int.from_be_bytes}
 use Rattle.base64.specs.GeneralPurpose.{IsBytes, decode_of, decoded_bytes_of, decode_slice_of}
-use Rattle.base64.specs.Engines.{url_safe_no_pad}
+use Rattle.base64.specs.{declared.decode.DecodeError.DecodeError, Engines.url_safe_no_pad}
 use Rattle.base64.proofs.EngineFacts.{decode_of_strict}
 use Rattle.desk_model.specs.Tokens.{NonceText, base64url, from_base64url, nonce_in, number_from}
 use Rattle.keys.proofs.Nonces.{decodes_whole, length-base64url, slice_of_decode}
@@ -45,16 +42,10 @@ nonce_in-written s new h written =
     let same : new ≡ decoded_bytes_of url_safe_no_pad s = written ∙ rw (none, append-nil) refl in
     rw same (nonce_in-decoded s (decoded_bytes_of url_safe_no_pad s) p.0 p.1)
 
--- the bytes of a text with a nonce are 24
-long_enough : (bytes : List ℕ) (long : Bool) → (length bytes == 24) ≡ long → (n : NonceText) → nonce_by (Some bytes) ≡ Some n → length bytes ≡ 24
-long_enough bytes true e n h = eqb-true (length bytes) 24 e
-long_enough bytes false e n h = let no : None ≡ Some n = rw e at h in absurd (cc no)
-
 -- where there is a nonce, the text decodes to 24 bytes
 decodes : (s : List ℕ) (r : Result (List ℕ) DecodeError) → decode_of url_safe_no_pad s ≡ r → (n : NonceText) → nonce_of_outcome r ≡ Some n
     → (bytes : List ℕ) × (decode_of url_safe_no_pad s ≡ Ok bytes) × (length bytes ≡ 24)
-decodes s (Ok bytes) e n h = (bytes, e, long_enough bytes (length bytes == 24) refl n h)
-decodes s (Err x) e n h = absurd (cc h)
+decodes s r h n k = grind (arith, nat_tests)
 
 -- a text with a nonce decodes into 24 bytes
 pub nonce_in-decodes : (s : List ℕ) (n : NonceText) → IsBytes s → nonce_in s ≡ Some n → decode_slice_of url_safe_no_pad s 24 ≡ Ok 24
@@ -67,8 +58,4 @@ nonce_in-decodes s n low h =
 
 -- a text that does not decode into 24 bytes has no nonce
 pub no_nonce_in : (s : List ℕ) → IsBytes s → (decode_slice_of url_safe_no_pad s 24 ≡ Ok 24 → ⊥) → nonce_in s ≡ None
-no_nonce_in s low other = by (nonce_in s) refl
-  where
-    by : (o : Option NonceText) → nonce_in s ≡ o → nonce_in s ≡ None
-    by None e = e
-    by (Some n) e = absurd (other (nonce_in-decodes s n low e))
+no_nonce_in s low other = search (rules, nonce_in-decodes)

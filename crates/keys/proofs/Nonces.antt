@@ -1,42 +1,25 @@
 -- Decoding into 24 bytes is the inverse of the text of a nonce.
-use Rattle.std.proofs.Common.{◌≡◌, ℕ, zero, suc, take, drop, length-append, ◌*◌, ◌/◌, ◌%◌, ◌<◌, Bool, true, false, List, [], ◌∷◌}
-use Rattle.std.proofs.Common.{◌++◌, length, refl, sym, ap, ◌∙◌, arith, Option, Some, None}
-use Rattle.std.specs.Prelude.{nat_lt, replicate, if◌then◌else◌}
-use Rattle.std.specs.declared.result.Result.{Result}
-use Rattle.std.specs.declared.result.Result.TheVariants.{Ok, Err}
-use Rattle.std.proofs.lemmas.List.{append-nil, take-append-drop}
-use Rattle.std.proofs.lemmas.Nat.{be_bytes_8}
-use Rattle.std.specs.Int.{w64, to_be_bytes, from_be_bytes}
-use Rattle.base64.specs.declared.{decode.DecodeError.DecodeError, decode.DecodeSliceError.DecodeSliceError}
-use Rattle.base64.specs.declared.{decode.DecodeSliceError.TheVariants.OutputSliceTooSmall, engine.general_purpose.GeneralPurpose.GeneralPurpose}
+use Rattle.std.proofs.Common.{◌≡◌, ℕ, zero, suc, take, drop, ◌*◌, ◌/◌, ◌%◌, ◌<◌, Bool, false, List, [], ◌∷◌, ◌++◌, length, refl, ap, ◌∙◌, arith, Option, None}
+use Rattle.std.proofs.Common.{rules}
+use Rattle.std.proofs.{lemmas.List.append-nil, lemmas.List.take-append-drop, lemmas.Nat.be_bytes_8}
+use Rattle.std.specs.{Prelude.nat_lt, Prelude.replicate, Prelude.if◌then◌else◌, declared.result.Result.Result, declared.result.Result.TheVariants.Ok}
+use Rattle.std.specs.{declared.result.Result.TheVariants.Err, Int.w64, Int.to_be_bytes, Int.from_be_bytes}
 use Rattle.base64.specs.Decode.{or_error, or_else, bytes_fit, lone_error, groups_error, suffix_error, decode_outcome, groups_before_last}
 use Rattle.base64.specs.GeneralPurpose.{IsBytes, decode_of, decoded_bytes_of, decode_slice_of}
-use Rattle.base64.specs.Engines.{url_safe_no_pad}
-use Rattle.base64.proofs.EngineFacts.{decode_of-encode_of, decode_of_strict}
-use Rattle.base64.proofs.RoundTrip.{length-encode_symbols}
+use Rattle.base64.specs.{declared.engine.general_purpose.GeneralPurpose.GeneralPurpose, Engines.url_safe_no_pad}
+use Rattle.base64.specs.declared.decode.{DecodeError.DecodeError, DecodeSliceError.DecodeSliceError, DecodeSliceError.TheVariants.OutputSliceTooSmall}
+use Rattle.base64.proofs.{EngineFacts.decode_of-encode_of, EngineFacts.decode_of_strict, RoundTrip.length-encode_symbols}
 use Rattle.desk_model.specs.Tokens.{base64url, nonce_text}
-
--- a decoding that succeeds fits
-fit : (b : Bool) (k n : ℕ) → ◌≡◌ {A = Result ℕ DecodeSliceError} (if b then Err OutputSliceTooSmall else Ok k) (Ok n) → k ≡ n
-fit true k n h = cc h
-fit false k n h = cc h
 
 -- a decoding into a slice that succeeds meets no error
 settled : (l m : Option DecodeError) (b : Bool) (k out n : ℕ)
     → or_error l (if b then Err OutputSliceTooSmall else or_error m (bytes_fit k out)) ≡ Ok n → (or_else l m ≡ None) × (k ≡ n)
-settled (Some e) m b k out n h = cc h
-settled None m true k out n h = cc h
-settled None (Some e) false k out n h = cc h
-settled None None false k out n h = (refl, fit (nat_lt out k) k n h)
+settled l m b k out n h = search rules
 
 -- a decoding that fits succeeds into a slice
 unsettled : (l m : Option DecodeError) (t : Bool) (d b : List ℕ) (out : ℕ) → decode_outcome (or_else l m) d ≡ Ok b → t ≡ false
     → nat_lt out (length b) ≡ false → or_error l (if t then Err OutputSliceTooSmall else or_error m (bytes_fit (length d) out)) ≡ Ok (length b)
-unsettled (Some e) m t d b out h u v = cc h
-unsettled None (Some e) t d b out h u v = cc h
-unsettled None None t d b out h u v =
-    let same : d ≡ b = cc h in
-    rw (same, u, v) refl
+unsettled l m t d b out h k g = search rules
 
 -- the parts of what decoding looks at
 abbrev lone : GeneralPurpose → List ℕ → Option DecodeError
@@ -81,12 +64,6 @@ nonce_decodes b h bytes =
     let r = slice_of_decode url_safe_no_pad (base64url b) b 24 whole (rw (length-base64url b h) refl) (rw h refl) in
     let ok : ℕ → Result ℕ DecodeSliceError = λ n. Ok n in r ∙ ap ok h
 
--- bytes below 256, one list after the other
-pub IsBytes-append : (xs ys : List ℕ) → IsBytes xs → IsBytes ys → IsBytes (xs ++ ys)
-IsBytes-append [] ys h k i = k i
-IsBytes-append (x ∷ xs) ys h k zero = h 0
-IsBytes-append (x ∷ xs) ys h k (suc i) = IsBytes-append xs ys (λ j. h (suc j)) k i
-
 -- the first of bytes below 256
 IsBytes-drop : (n : ℕ) (xs : List ℕ) → IsBytes xs → IsBytes (take n xs)
 IsBytes-drop zero xs h i = omega arith
@@ -110,10 +87,6 @@ eight a b c d e f g h (suc (suc (suc (suc (suc (suc zero)))))) = mod_byte g
 eight a b c d e f g h (suc (suc (suc (suc (suc (suc (suc zero))))))) = mod_byte h
 eight a b c d e f g h (suc (suc (suc (suc (suc (suc (suc (suc i)))))))) = omega arith
 
--- a number is written in bytes
-pub IsBytes-to_be_bytes : (n : ℕ) → IsBytes (to_be_bytes w64 n)
-IsBytes-to_be_bytes n = eight (n / 72057594037927936) (n / 281474976710656) (n / 1099511627776) (n / 4294967296) (n / 16777216) (n / 65536) (n / 256) n
-
 -- the number and the rest of 24 bytes
 pub parts_whole : (bytes front back : List ℕ) (n : ℕ) → front ≡ take 8 bytes → back ≡ drop 8 bytes → length front ≡ 8 → IsBytes bytes
     → n ≡ from_be_bytes w64 front → to_be_bytes w64 n ++ back ≡ bytes
@@ -125,13 +98,8 @@ parts_whole bytes front back n f b len range eq =
 pub nonce_of_decoded : (s new r : List ℕ) (n : ℕ) → IsBytes s → decode_slice_of url_safe_no_pad s 24 ≡ Ok 24
     → new ≡ decoded_bytes_of url_safe_no_pad s ++ drop {A = ℕ} (length (decoded_bytes_of url_safe_no_pad s)) (replicate 24 0)
     → to_be_bytes w64 n ++ r ≡ new → s ≡ nonce_text n r
-nonce_of_decoded s new r n low h written parts =
-    let p = text_of_decoded s low h in
-    let none : drop {A = ℕ} (length (decoded_bytes_of url_safe_no_pad s)) (replicate 24 0) ≡ [] = rw p.1 refl in
-    let same : new ≡ decoded_bytes_of url_safe_no_pad s = written ∙ rw (none, append-nil) refl in
-    p.0 ∙ ap base64url (sym same ∙ sym parts)
+nonce_of_decoded s new r n low h written parts = search (rules, text_of_decoded)
 
 -- the text of a nonce decodes
 pub nonce_of_decodes : (s r : List ℕ) (n : ℕ) → length r ≡ 16 → IsBytes r → s ≡ nonce_text n r → decode_slice_of url_safe_no_pad s 24 ≡ Ok 24
-nonce_of_decodes s r n len low e =
-    rw e (nonce_decodes (to_be_bytes w64 n ++ r) (simp length-append (omega (arith, len))) (IsBytes-append (to_be_bytes w64 n) r (IsBytes-to_be_bytes n) low))
+nonce_of_decodes s r n len low e = search (rules, nonce_decodes)

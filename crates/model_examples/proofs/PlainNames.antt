@@ -1,16 +1,11 @@
 -- Names that are written in ASCII, without Punycode: IDNA lowers their letters, and nothing else.
 use Rattle.std.specs.Prelude.{◌≡◌, ℕ, Bool, true, false, not, ◌&&◌, ◌==◌, nat_eq, List, map, drop, codes, Option, Some, None, refl, if◌then◌else◌}
-use Rattle.std.proofs.Common.{get_or, ◌<◌, ◌∙◌, ltb-true}
-use Rattle.std.specs.Char.{is_ascii, to_ascii_lowercase}
-use Rattle.std.specs.List.{list_all, list_any, starts_with}
-use Rattle.std.proofs.lemmas.Bool.{and_parts, not-true}
-use Rattle.std.proofs.lemmas.{List.Elements.All-weaker, List.Sums.AllPass-from_list_all, Str.Ascii.IsAscii-from_all}
-use Rattle.idna.specs.Validity.{has_ace_prefix}
-use Rattle.idna.specs.declared.deny_list.TheConstants.AsciiDenyList.{EMPTY}
+use Rattle.std.specs.{Char.is_ascii, Char.to_ascii_lowercase, List.list_all, List.list_any, List.starts_with}
+use Rattle.std.proofs.{Common.get_or, Common.◌<◌, Common.◌∙◌, Common.ltb-true, lemmas.Bool.and_parts, lemmas.Bool.not-true, lemmas.List.Elements.All-weaker}
+use Rattle.std.proofs.{lemmas.List.Sums.AllPass-from_list_all, lemmas.Str.Ascii.IsAscii-from_all}
+use Rattle.idna.specs.{Validity.has_ace_prefix, declared.deny_list.TheConstants.AsciiDenyList.EMPTY}
 use Rattle.idna.proofs.{Uts46Lemmas.domain_to_ascii-ascii, ValidityLemmas.denies-EMPTY}
-use Rattle.desk_model.specs.BaseName.{is_base_name, labels_of}
-use Rattle.desk_model.specs.Name.{Name}
-use Rattle.desk_model.specs.Names.{ascii_form, name_of, name_with}
+use Rattle.desk_model.specs.{BaseName.is_base_name, BaseName.labels_of, Name.Name, Names.ascii_form, Names.name_of, Names.name_with}
 
 -- the text in lower case
 abbrev pub lowered : List ℕ → List ℕ

@@ -2,14 +2,12 @@
 use Rattle.std.specs.Prelude.{◌≡◌, ℕ, ◌==◌, ◌&&◌, ◌||◌, Bool, List, [], ◌∷◌, Option, Some, codes, refl}
 use Rattle.std.specs.List.{filter, list_any}
 use Rattle.std.proofs.Common.{ap}
-use Rattle.desk_model.specs.{Asked.asked_names, Lookup.holds, Tables.Tables, Names.name_of}
-use Rattle.desk_model.specs.Name.{Name, same_name}
 use Rattle.desk_model.specs.Touched.{is_first_authorization, is_named_account, is_touched_nonce, is_touched_order, lists}
-use Rattle.desk_model.specs.declared.{call.Ask.Ask, call.Call.Call, rows.AuthorizationRow.AuthorizationRow}
+use Rattle.desk_model.specs.{Asked.asked_names, Lookup.holds, Tables.Tables, Names.name_of, Name.Name, Name.same_name, declared.call.Ask.Ask}
+use Rattle.desk_model.specs.{declared.call.Call.Call, declared.rows.AuthorizationRow.AuthorizationRow}
 use Rattle.desk_model.specs.declared.call.Target.TheVariants as to
 use Rattle.model_examples.proofs.{PlainNames.plain_name, Computing.computing}
-use Rattle.model_examples.specs.Calls.{request, simple}
-use Rattle.model_examples.specs.TouchedRows.{client_rows, numbers_in, NewOrder}
+use Rattle.model_examples.specs.{Calls.request, Calls.simple, TouchedRows.client_rows, TouchedRows.numbers_in, TouchedRows.NewOrder}
 
 -- the name that is asked for
 f_example : name_of (codes "f.example") ≡ Some (simple (codes "f.example"))

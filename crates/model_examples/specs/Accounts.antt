@@ -1,14 +1,12 @@
 -- The first requests to a new desk: nonces and accounts (RFC 8555, 6.5, 7.2, 7.3).
 use Rattle.std.specs.Prelude.{◌≡◌, ℕ, List, [], ◌∷◌, true, false, codes}
-use Rattle.model_examples.specs.Entries.{issued, spent, opened, History}
-use Rattle.desk_model.specs.Keys.{ec, canonical_text}
-use Rattle.desk_model.specs.declared.call.Call.{Call}
+use Rattle.model_examples.specs.Computed.{Gives, plain, located, renewed, refuses, Nothing, Json, Answers}
+use Rattle.model_examples.specs.Calls.{on, zeros, new_desk, first_key, second_key, asked, signed, nonce_one, nonce_two, nonce_three, nonce_four, nonce_five}
+use Rattle.model_examples.specs.Calls.{nonce_six}
+use Rattle.model_examples.specs.{Entries.issued, Entries.spent, Entries.opened, Entries.History, Texts.bad_nonce, Texts.no_account}
+use Rattle.desk_model.specs.{Keys.ec, Keys.canonical_text, declared.call.Call.Call}
 use Rattle.desk_model.specs.declared.call.Ask.TheVariants as ask
 use Rattle.desk_model.specs.declared.call.Target.TheVariants as to
-use Rattle.model_examples.specs.Computed.{Gives, plain, located, renewed, refuses, Nothing, Json, Answers}
-use Rattle.model_examples.specs.Calls.{on, zeros, new_desk, first_key, second_key, asked, signed, nonce_one, nonce_two}
-use Rattle.model_examples.specs.Calls.{nonce_three, nonce_four, nonce_five, nonce_six}
-use Rattle.model_examples.specs.Texts.{bad_nonce, no_account}
 
 -- ---- an account is opened
 

@@ -1,7 +1,6 @@
 -- How the examples write histories and calls.
 use Rattle.std.specs.Prelude.{ℕ, List, [], ◌∷◌, false, Some, Ok, codes, replicate}
-use Rattle.desk_model.specs.{Terms.Terms, Name.Name}
-use Rattle.desk_model.specs.declared.{entry.Wanted.Wanted, call.Call.Call, call.Ask.Ask, call.Target.Target}
+use Rattle.desk_model.specs.{Terms.Terms, Name.Name, declared.entry.Wanted.Wanted, declared.call.Call.Call, declared.call.Ask.Ask, declared.call.Target.Target}
 use Rattle.model_examples.specs.Entries.{Entry, made, issued, opened, ordered, new, Dated, History}
 use Rattle.desk_model.specs.declared.call.Ask.TheVariants as ask
 

@@ -1,12 +1,10 @@
 -- What a decision says, as the bytes that a client gets, and what it records.
 use Rattle.std.specs.Prelude.{◌≡◌, ℕ, List, [], ◌∷◌, Bool, true, Option, Some, None}
 use Rattle.serde_json.specs.Written.{compact_text}
-use Rattle.model_examples.specs.Entries.{Entry, History, issued, spent}
-use Rattle.desk_model.specs.Refusals.{problem_document}
+use Rattle.model_examples.specs.{Entries.Entry, Entries.History, Entries.issued, Entries.spent, Calls.nonce_two, Calls.zeros}
 use Rattle.desk_model.specs.Decide.{Decision, decide}
-use Rattle.desk_model.specs.declared.{call.Call.Call, reply.Reply.Reply, reply.Body.Body}
+use Rattle.desk_model.specs.{Refusals.problem_document, declared.call.Call.Call, declared.reply.Reply.Reply, declared.reply.Body.Body}
 use Rattle.desk_model.specs.declared.reply.Body.TheVariants as body
-use Rattle.model_examples.specs.Calls.{nonce_two, zeros}
 
 -- the body of a reply, by its bytes; of a problem also whether the link to the directory stands
 pub data Content : Type 0 where

@@ -3,11 +3,9 @@ use Rattle.std.specs.Prelude.{◌≡◌, [], ◌∷◌, ◌++◌, codes, replica
 use Rattle.desk_model.specs.Contact.{contact_fault, contacts_fault}
 use Rattle.desk_model.specs.declared.call.Target.TheVariants as to
 use Rattle.desk_model.specs.declared.refusal.Refusal.TheVariants as refusal
-use Rattle.model_examples.specs.Accounts.{with_nonce}
 use Rattle.model_examples.specs.Computed.{plain, Json, located, Answers, Reads, Refuses, shows}
-use Rattle.model_examples.specs.Entries.{contacts_changed, opened}
-use Rattle.model_examples.specs.Calls.{account_desk, request, first_key}
 use Rattle.model_examples.specs.Texts.{unsupported_contact, invalid_contact, no_account, plain_account}
+use Rattle.model_examples.specs.{Accounts.with_nonce, Entries.contacts_changed, Entries.opened, Calls.account_desk, Calls.request, Calls.first_key}
 
 -- which contacts an account may have
 pub record ContactsAreTested : Type 0 where

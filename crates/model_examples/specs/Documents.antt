@@ -2,12 +2,10 @@
 use Rattle.std.specs.Prelude.{◌≡◌, ℕ, List, [], ◌∷◌, ◌++◌, replicate, Some, None, unwrap_or, codes}
 use Rattle.serde_json.specs.{Data.Data, Read.read, Written.compact_text}
 use Rattle.serde_json.specs.Data as json
-use Rattle.desk_model.specs.Keys.{Key, ec, rsa, okp, canonical_text, number_member, IsKeyOf}
-use Rattle.desk_model.specs.Document.{key_document}
+use Rattle.desk_model.specs.{Keys.Key, Keys.ec, Keys.rsa, Keys.okp, Keys.canonical_text, Keys.number_member, Keys.IsKeyOf, Document.key_document}
 use Rattle.desk_model.specs.declared.call.Target.TheVariants as to
-use Rattle.model_examples.specs.Computed.{Reads}
-use Rattle.model_examples.specs.Entries.{issued, opened, answered, reported, incorrect_response}
 use Rattle.model_examples.specs.Calls.{on, zeros, new_desk, order_desk, default_terms, first_key, request}
+use Rattle.model_examples.specs.{Computed.Reads, Entries.issued, Entries.opened, Entries.answered, Entries.reported, Entries.incorrect_response}
 
 -- ---- keys
 

@@ -1,7 +1,6 @@
 -- The end of an account, and of what it has (RFC 8555, 7.1.6, 7.3.6).
 use Rattle.std.specs.Prelude.{◌≡◌, ℕ, List, [], ◌∷◌, map, false, codes}
-use Rattle.desk_model.specs.Tables.{picture}
-use Rattle.desk_model.specs.declared.{status.OrderStatus.OrderStatus, status.AuthzStatus.AuthzStatus}
+use Rattle.desk_model.specs.{Tables.picture, declared.status.OrderStatus.OrderStatus, declared.status.AuthzStatus.AuthzStatus}
 use Rattle.desk_model.specs.declared.status.OrderStatus.TheVariants as order
 use Rattle.desk_model.specs.declared.status.AuthzStatus.TheVariants as authz
 use Rattle.desk_model.specs.declared.call.Ask.TheVariants as ask
@@ -11,8 +10,7 @@ use Rattle.model_examples.specs.Computed.{Gives, plain, shows, Problem, Answers,
 use Rattle.model_examples.specs.Entries.{Entry, account_ended, ordered, answered, reported, good, incorrect_response, authorization_ended, finalized, certified}
 use Rattle.model_examples.specs.Entries.{deactivated, revoked, History}
 use Rattle.model_examples.specs.Calls.{on, account_desk, asked, request, wants}
-use Rattle.model_examples.specs.Offices.{Notes, Repeats, Turns}
-use Rattle.model_examples.specs.Texts.{unauthorized, unfit_report, nothing_here}
+use Rattle.model_examples.specs.{Offices.Notes, Offices.Repeats, Offices.Turns, Texts.unauthorized, Texts.unfit_report, Texts.nothing_here}
 
 -- an order of this name
 abbrev pub order_of : List ℕ → Entry

@@ -4,8 +4,7 @@ use Rattle.desk_model.specs.{Names.name_of, Payload.new_order, Legal.may_follow,
 use Rattle.desk_model.specs.declared.{verdict.Verdict.TheVariants.Orders as orders, payload.Identifier.Identifier}
 use Rattle.desk_model.specs.Rules.{subproblems, names_in, kept, wanted, target_verdict}
 use Rattle.desk_model.specs.declared.call.Target.TheVariants as to
-use Rattle.model_examples.specs.Entries.{issued, spent, ordered}
-use Rattle.model_examples.specs.Calls.{zeros, account_desk, simple, wants}
+use Rattle.model_examples.specs.{Entries.issued, Entries.spent, Entries.ordered, Calls.zeros, Calls.account_desk, Calls.simple, Calls.wants}
 
 -- so many names, numbered from here
 abbrev pub names_from : ℕ → ℕ → List (List ℕ)

@@ -1,8 +1,7 @@
 -- What an entry may keep as text: UTF-8, and in no other encoding.
 use Rattle.std.specs.Prelude.{ℕ, List, [], ◌∷◌, ◌++◌, codes}
 use Rattle.desk_model.specs.Legal.{IsFormed}
-use Rattle.model_examples.specs.Calls.{first_key}
-use Rattle.model_examples.specs.Entries.{contacts_changed, failed, opened}
+use Rattle.model_examples.specs.{Calls.first_key, Entries.contacts_changed, Entries.failed, Entries.opened}
 
 -- a contact with the character ü in UTF-8
 abbrev pub utf8_contact : List ℕ

@@ -6,10 +6,9 @@ use Rattle.desk_model.specs.declared.call.OfficeAsk.TheVariants as office
 use Rattle.desk_model.specs.declared.call.Finding.TheVariants as found
 use Rattle.model_examples.specs.Computed.{Answer, plain, located, Json, Problem, Answers, Refuses}
 use Rattle.model_examples.specs.Entries.{Entry, opened, key_changed, account_ended, deactivated, answered, reported, good, History, incorrect_response}
-use Rattle.model_examples.specs.Calls.{on, account_desk, first_key, second_key, request}
-use Rattle.model_examples.specs.Following.{May, MayNot}
 use Rattle.model_examples.specs.Offices.{waiting_desk, http_desk, report, Notes, Repeats, http_work, proved_challenge, unmatched_challenge}
 use Rattle.model_examples.specs.Texts.{malformed, bad_public_key, key_in_use, no_account, unauthorized, plain_account}
+use Rattle.model_examples.specs.{Calls.on, Calls.account_desk, Calls.first_key, Calls.second_key, Calls.request, Following.May, Following.MayNot}
 
 -- the canonical text of a third key
 abbrev pub third_key : List ℕ

@@ -1,12 +1,9 @@
 -- Certificates and CSRs at the limit of their size (RFC 8555, 7.4, 7.4.2).
-use Rattle.desk_model.specs.Rules.{if_fits}
+use Rattle.desk_model.specs.{Rules.if_fits, declared.call.OfficeAsk.OfficeAsk}
 use Rattle.std.specs.Prelude.{◌≡◌, ℕ, [], ◌∷◌, replicate, codes, Some, None}
-use Rattle.desk_model.specs.declared.call.OfficeAsk.{OfficeAsk}
 use Rattle.desk_model.specs.declared.call.OfficeAsk.TheVariants as office
 use Rattle.model_examples.specs.Entries.{answered, reported, good, finalized, certified, History}
-use Rattle.model_examples.specs.Offices.{Notes, Turns}
-use Rattle.model_examples.specs.Texts.{too_large}
-use Rattle.model_examples.specs.Calls.{on, order_desk, default_terms}
+use Rattle.model_examples.specs.{Offices.Notes, Offices.Turns, Texts.too_large, Calls.on, Calls.order_desk, Calls.default_terms}
 
 -- the order is processing
 abbrev pub processing_desk : History

@@ -2,9 +2,7 @@
 use Rattle.std.specs.Prelude.{ℕ, map, codes}
 use Rattle.desk_model.specs.declared.call.Call.{Call}
 use Rattle.desk_model.specs.declared.call.Target.TheVariants as to
-use Rattle.model_examples.specs.{Computed.Refuses, Texts.malformed}
-use Rattle.model_examples.specs.Calls.{account_desk, request}
-use Rattle.model_examples.specs.Fifty.{names, order_text}
+use Rattle.model_examples.specs.{Computed.Refuses, Texts.malformed, Calls.account_desk, Calls.request, Fifty.names, Fifty.order_text}
 
 -- an order of so many names
 abbrev pub ordering : ℕ → Call

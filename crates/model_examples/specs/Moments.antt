@@ -1,14 +1,12 @@
 -- Moments: how long a nonce serves, at which moment a call acts, and which moments are faults (RFC 8555, 6.5).
 use Rattle.std.specs.Prelude.{◌≡◌, ℕ, [], ◌∷◌, false, Some, None, codes}
-use Rattle.desk_model.specs.{Moment.moment_text, Decide.after, Run.fault}
-use Rattle.desk_model.specs.declared.call.Call.{Call}
+use Rattle.desk_model.specs.{Moment.moment_text, Decide.after, Run.fault, declared.call.Call.Call}
 use Rattle.desk_model.specs.declared.call.Ask.TheVariants as ask
 use Rattle.desk_model.specs.declared.call.OfficeAsk.TheVariants as office
 use Rattle.desk_model.specs.declared.call.Target.TheVariants as to
 use Rattle.model_examples.specs.Computed.{Gives, refuses, located, Answers, shows}
-use Rattle.model_examples.specs.Entries.{issued, History}
 use Rattle.model_examples.specs.Calls.{on, zeros, new_desk, account_desk, first_key, asked, request_at, signed, nonce_one, nonce_two, nonce_three}
-use Rattle.model_examples.specs.Texts.{bad_nonce, plain_account}
+use Rattle.model_examples.specs.{Entries.issued, Entries.History, Texts.bad_nonce, Texts.plain_account}
 
 -- the account is asked for at a moment, with a nonce of moment 0
 abbrev pub known_at : ℕ → Call

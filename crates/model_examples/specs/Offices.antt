@@ -5,12 +5,10 @@ use Rattle.desk_model.specs.declared.call.Ask.TheVariants as ask
 use Rattle.desk_model.specs.declared.call.OfficeAsk.TheVariants as office
 use Rattle.desk_model.specs.declared.call.Finding.TheVariants as found
 use Rattle.desk_model.specs.declared.call.FetchError.TheVariants as fetch
-use Rattle.model_examples.specs.Computed.{Gives, plain, shows, Problem}
 use Rattle.model_examples.specs.Entries.{Entry, opened, ordered, answered, reported, good, incorrect_response, connection, dns, finalized, certified, failed}
 use Rattle.model_examples.specs.Entries.{History}
-use Rattle.model_examples.specs.Calls.{on, new_desk, asked, wants, second_key}
-use Rattle.model_examples.specs.Keys.{rsa_key}
-use Rattle.model_examples.specs.Texts.{malformed, nothing_here, unfit_report}
+use Rattle.model_examples.specs.{Computed.Gives, Computed.plain, Computed.shows, Computed.Problem, Calls.on, Calls.new_desk, Calls.asked, Calls.wants}
+use Rattle.model_examples.specs.{Calls.second_key, Keys.rsa_key, Texts.malformed, Texts.nothing_here, Texts.unfit_report}
 
 -- an order of example.org, by an account with the key of RFC 7638, 3.1
 abbrev pub waiting_desk : History

@@ -1,14 +1,12 @@
 -- The first order, and what its names make (RFC 8555, 7.1.3, 7.1.4, 7.4).
 use Rattle.std.specs.Prelude.{◌≡◌, ℕ, [], ◌∷◌, true, false, Some, None, codes}
-use Rattle.desk_model.specs.Name.{Name}
-use Rattle.desk_model.specs.Run.{fault, run}
+use Rattle.desk_model.specs.{Name.Name, Run.fault, Run.run, declared.call.Call.Call, declared.call.Target.Target}
 use Rattle.model_examples.specs.Entries.{Entry, issued, spent, ordered, new, History}
-use Rattle.desk_model.specs.declared.{call.Call.Call, call.Target.Target}
-use Rattle.desk_model.specs.declared.call.Ask.TheVariants as ask
-use Rattle.desk_model.specs.declared.call.Target.TheVariants as to
 use Rattle.model_examples.specs.Computed.{Answer, Gives, plain, located, renewed, shows, Json, below}
 use Rattle.model_examples.specs.Calls.{on, zeros, new_desk, first_key, asked, signed, nonce_four, nonce_five, nonce_six, nonce_seven}
 use Rattle.model_examples.specs.Accounts.{opening, knowing, asking_existing, with_fifth_nonce}
+use Rattle.desk_model.specs.declared.call.Ask.TheVariants as ask
+use Rattle.desk_model.specs.declared.call.Target.TheVariants as to
 
 -- an order of two spellings of one name and of its wildcard, with so many random bytes
 abbrev pub ordering : ℕ → Call

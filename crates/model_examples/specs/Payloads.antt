@@ -2,8 +2,7 @@
 use Rattle.std.specs.Prelude.{ℕ, List, [], codes}
 use Rattle.desk_model.specs.declared.call.Target.{Target}
 use Rattle.desk_model.specs.declared.call.Target.TheVariants as to
-use Rattle.model_examples.specs.{Accounts.with_nonce, Computed.Refuses, Texts.malformed}
-use Rattle.model_examples.specs.Calls.{order_desk, default_terms, request}
+use Rattle.model_examples.specs.{Accounts.with_nonce, Computed.Refuses, Texts.malformed, Calls.order_desk, Calls.default_terms, Calls.request}
 
 -- a request to the desk of one order is malformed
 abbrev pub IsMalformed : Target → List ℕ → Type 0

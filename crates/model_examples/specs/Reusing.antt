@@ -1,9 +1,7 @@
 -- Orders that use valid authorizations again (RFC 8555, 7.4).
 use Rattle.std.specs.Prelude.{◌≡◌, ℕ, [], ◌∷◌, Option, Some, None, true, codes, map, option_map}
-use Rattle.desk_model.specs.Authorization.{authorizations, count_challenges}
-use Rattle.desk_model.specs.{Name.Name, Order.order_by_number, Rules.wanted, Tables.tables_at, Terms.Terms}
-use Rattle.desk_model.specs.Questions.{order_on, serving_on}
-use Rattle.desk_model.specs.declared.{entry.Wanted.Wanted, status.OrderStatus.OrderStatus}
+use Rattle.desk_model.specs.{Authorization.authorizations, Authorization.count_challenges, Name.Name, Order.order_by_number, Rules.wanted, Tables.tables_at}
+use Rattle.desk_model.specs.{Terms.Terms, Questions.order_on, Questions.serving_on, declared.entry.Wanted.Wanted, declared.status.OrderStatus.OrderStatus}
 use Rattle.desk_model.specs.declared.status.OrderStatus.TheVariants as order
 use Rattle.model_examples.specs.Entries.{History, answered, authorization_ended, certified, finalized, good}
 use Rattle.model_examples.specs.Entries.{key_changed, opened, ordered, reported, reused, revoked}

@@ -1,20 +1,17 @@
 -- The rows that a desk keeps, and which stored statuses are faults.
-use Rattle.desk_model.specs.declared.{rows.ChallengeRow.ChallengeRow, rows.AuthorizationRow.AuthorizationRow, rows.AccountRow.AccountRow}
-use Rattle.desk_model.specs.declared.{rows.OrderRow.OrderRow, status.Kind.Kind}
+use Rattle.desk_model.specs.{declared.rows.ChallengeRow.ChallengeRow, declared.rows.AuthorizationRow.AuthorizationRow, declared.rows.AccountRow.AccountRow}
+use Rattle.desk_model.specs.{declared.rows.OrderRow.OrderRow, declared.status.Kind.Kind, Tables.Tables, Tables.picture, Tables.tables_at, Derived.status_faults}
+use Rattle.desk_model.specs.{Name.Name, declared.status.Kind.TheVariants.Http01 as http_01, declared.status.Kind.TheVariants.Dns01 as dns_01}
 use Rattle.std.specs.Prelude.{◌≡◌, ℕ, List, [], ◌∷◌, map, Some, None, codes}
-use Rattle.desk_model.specs.Tables.{Tables, picture, tables_at}
-use Rattle.desk_model.specs.{Derived.status_faults, Name.Name}
 use Rattle.desk_model.specs.declared.rows.StatusFault.TheVariants as fault
 use Rattle.desk_model.specs.declared.status.EndKind.TheVariants as kind
-use Rattle.desk_model.specs.declared.status.Kind.TheVariants.{Http01 as http_01, Dns01 as dns_01}
 use Rattle.desk_model.specs.declared.status.AccountStatus.TheVariants as account
 use Rattle.desk_model.specs.declared.status.OrderStatus.TheVariants as order
 use Rattle.desk_model.specs.declared.status.AuthzStatus.TheVariants as authz
 use Rattle.desk_model.specs.declared.status.ChallengeStatus.TheVariants as chall
 use Rattle.model_examples.specs.Entries.{answered, reported, connection, authorization_ended, revoked, History}
 use Rattle.model_examples.specs.Calls.{on, zeros, order_desk, default_terms, terms_of, first_key, simple}
-use Rattle.model_examples.specs.Accounts.{with_account}
-use Rattle.model_examples.specs.Orders.{with_order, any_example_org}
+use Rattle.model_examples.specs.{Accounts.with_account, Orders.with_order, Orders.any_example_org}
 
 -- the row of a challenge as it is made
 abbrev pub made_challenge : ℕ → Kind → ChallengeRow

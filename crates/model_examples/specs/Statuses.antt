@@ -11,8 +11,7 @@ use Rattle.model_examples.specs.Entries.{Entry, issued, spent, ordered, answered
 use Rattle.model_examples.specs.Entries.{History}
 use Rattle.model_examples.specs.Calls.{on, zeros, order_desk, account_desk, terms_of, default_terms, first_key, asked, signed, request, request_at, nonce_two}
 use Rattle.model_examples.specs.Calls.{wants}
-use Rattle.model_examples.specs.Offices.{handed, Repeats}
-use Rattle.model_examples.specs.Texts.{nothing_here, unfit_report, order_not_ready, bad_csr}
+use Rattle.model_examples.specs.{Offices.handed, Offices.Repeats, Texts.nothing_here, Texts.unfit_report, Texts.order_not_ready, Texts.bad_csr}
 
 -- a desk with an order of a.example: nonces live 3600 seconds, orders and authorizations 100
 abbrev pub short_desk : History

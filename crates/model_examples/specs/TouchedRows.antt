@@ -1,20 +1,16 @@
 -- The rows that a call touches, by their numbers.
 use Rattle.std.specs.Prelude.{◌≡◌, ℕ, ◌+◌, List, [], ◌∷◌, ◌++◌, map, take, false, Some, Err, codes}
 use Rattle.std.specs.List.{flat_map}
-use Rattle.desk_model.specs.Tables.{Tables, picture, tables_at}
-use Rattle.desk_model.specs.Touched.{touched}
-use Rattle.desk_model.specs.declared.{rows.OrderRow.OrderRow, call.Call.Call}
+use Rattle.desk_model.specs.{Tables.Tables, Tables.picture, Tables.tables_at, Touched.touched, declared.rows.OrderRow.OrderRow, declared.call.Call.Call}
 use Rattle.desk_model.specs.declared.call.Ask.TheVariants as ask
 use Rattle.desk_model.specs.declared.call.OfficeAsk.TheVariants as office
 use Rattle.desk_model.specs.declared.call.FetchError.TheVariants as fetch
 use Rattle.desk_model.specs.declared.call.Finding.TheVariants as found
 use Rattle.desk_model.specs.declared.call.Target.TheVariants as to
 use Rattle.model_examples.specs.Entries.{issued, opened, ordered, History}
-use Rattle.model_examples.specs.Calls.{on, zeros, account_desk, default_terms, first_key, second_key, asked, signed, request}
-use Rattle.model_examples.specs.Calls.{nonce_one, nonce_two, nonce_four, nonce_seven, wants}
-use Rattle.model_examples.specs.Endings.{order_of, busy_desk}
-use Rattle.model_examples.specs.{Keys.rsa_key, Offices.handed}
-use Rattle.model_examples.specs.KeyChanges.{first_url, rekey}
+use Rattle.model_examples.specs.Calls.{on, zeros, account_desk, default_terms, first_key, second_key, asked, signed, request, nonce_one, nonce_two, nonce_four}
+use Rattle.model_examples.specs.Calls.{nonce_seven, wants}
+use Rattle.model_examples.specs.{Endings.order_of, Endings.busy_desk, Keys.rsa_key, Offices.handed, KeyChanges.first_url, KeyChanges.rekey}
 
 -- the numbers of the rows of tables; that of a nonce is its serial
 pub record Numbers : Type 0 where

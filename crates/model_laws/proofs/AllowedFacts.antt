@@ -1,35 +1,25 @@
 -- What may follow a history is what its tables allow.
-use Rattle.std.proofs.Common.{◌≡◌, ◌≤◌, ◌<◌, ℕ, ◌+◌, List, [], ◌∷◌, map, filter, Option, Some, None, refl, sym, ap, ◌∙◌, true, false, Bool, cond, arith}
-use Rattle.std.specs.Prelude.{IsTrue, ◌==◌, ◌&&◌, ◌||◌, is_some, is_none, find, bytes_eq}
-use Rattle.std.specs.List.{list_any, list_all}
-use Rattle.std.specs.Option.{option_map}
-use Rattle.std.proofs.lemmas.Bool.{eqb-true}
-use Rattle.desk_model.specs.{Lookup.holds, Entry.History, Contact.contacts_pass, Questions.serves, Effect.has_row}
-use Rattle.desk_model.specs.Nonce.{nonces, is_open}
-use Rattle.desk_model.specs.Account.{accounts, account_by_key, key_of, is_valid as is_valid_account}
+use Rattle.std.proofs.Common.{◌≡◌, ◌≤◌, ◌<◌, ℕ, ◌+◌, List, [], ◌∷◌, map, filter, Option, Some, refl, sym, ap, ◌∙◌, true, false, Bool, cond, arith}
+use Rattle.std.specs.Prelude.{IsTrue, ◌==◌, ◌&&◌, is_some, is_none, find, bytes_eq}
+use Rattle.std.specs.{List.list_any, Option.option_map}
 use Rattle.desk_model.specs.Authorization.{authorizations, authorization_of, has_challenge, authorization_status, challenge_status, is_live, is_pending}
-use Rattle.desk_model.specs.Order.{orders, is_ready, is_processing}
-use Rattle.desk_model.specs.History.{clock, terms}
-use Rattle.desk_model.specs.Legal.{EachFollows, IsFormed, may_follow, is_pending_challenge, is_processing_challenge, has_length, all_different, is_wanted}
-use Rattle.desk_model.specs.Legal.{may_want, wanted_name, is_problem}
-use Rattle.desk_model.specs.Limits.{last_moment, longest_certificate, longest_csr, most_names}
+use Rattle.desk_model.specs.Legal.{EachFollows, IsFormed, may_follow, is_pending_challenge, is_processing_challenge, is_problem}
 use Rattle.desk_model.specs.Tables.{account_row, challenge_row, authorization_row, order_row, tables_at}
-use Rattle.desk_model.specs.Allowed.{may_on, may_want_on, challenge_passes}
-use Rattle.desk_model.specs.declared.{status.ChallengeStatus.ChallengeStatus, entry.Entry.Entry, entry.Wanted.Wanted, objects.Authorization.Authorization}
-use Rattle.desk_model.specs.declared.{objects.Challenge.Challenge, objects.Nonce.Nonce}
 use Rattle.desk_model.specs.declared.entry.Entry.TheVariants.{Made as made, Issued as issued, Spent as spent, Opened as opened}
 use Rattle.desk_model.specs.declared.entry.Entry.TheVariants.{ContactsChanged as contacts_changed, KeyChanged as key_changed, AccountEnded as account_ended}
 use Rattle.desk_model.specs.declared.entry.Entry.TheVariants.{Ordered as ordered, Answered as answered, Reported as reported}
 use Rattle.desk_model.specs.declared.entry.Entry.TheVariants.{AuthorizationEnded as authorization_ended, Finalized as finalized, Certified as certified}
 use Rattle.desk_model.specs.declared.entry.Entry.TheVariants.{Failed as failed}
-use Rattle.desk_model.specs.declared.entry.Wanted.TheVariants.{New, Reused}
+use Rattle.desk_model.specs.{Lookup.holds, Entry.History, Contact.contacts_pass, Effect.has_row, Nonce.nonces, Nonce.is_open, Account.accounts}
+use Rattle.desk_model.specs.{Account.account_by_key, Account.is_valid as is_valid_account, Order.orders, Order.is_processing, History.clock, Limits.last_moment}
+use Rattle.desk_model.specs.{Allowed.may_on, Allowed.challenge_passes, declared.status.ChallengeStatus.ChallengeStatus, declared.entry.Entry.Entry}
+use Rattle.desk_model.specs.{declared.objects.Authorization.Authorization, declared.objects.Challenge.Challenge, declared.objects.Nonce.Nonce}
 use Rattle.model_laws.proofs.{Basics.find-map, RowFacts.has_row-row, RowLists.numbered_ascends, Numbers.nonces_numbered}
 use Rattle.model_laws.specs.{Later.IsLater, Ordered.Ascends}
 
 -- a test of what a map makes
 holds-map : {X Y : Type 0} (test : Y → Bool) (f : X → Y) (o : Option X) → holds test (option_map f o) ≡ holds (λ x. test (f x)) o
-holds-map test f None = refl
-holds-map test f (Some x) = refl
+holds-map test f o = grind arith
 
 -- a look-up in rows is one in what they are of
 pub row_holds : {X Y : Type 0} (test p : Y → Bool) (row : X → Y) (xs : List X) →
@@ -38,13 +28,7 @@ row_holds test p row xs = ap (holds test) (find-map p row xs) ∙ holds-map test
 
 -- equal tests find the same
 find-same : {X : Type 0} (p q : X → Bool) (xs : List X) → ((x : X) → p x ≡ q x) → find p xs ≡ find q xs
-find-same p q [] h = refl
-find-same p q (x ∷ xs) h = λ i. cond (h x i) (Some x) (find-same p q xs h i)
-
--- a map makes something of nothing nowhere
-none-map : {X Y : Type 0} (f : X → Y) (o : Option X) → is_none (option_map f o) ≡ is_none o
-none-map f None = refl
-none-map f (Some x) = refl
+find-same p q xs h = grind arith
 
 -- ---- challenges
 
@@ -52,15 +36,7 @@ none-map f (Some x) = refl
 challenge_found : (F : History) (test : ChallengeStatus → Bool) (n account : ℕ) (cs : List Challenge) → list_any (λ c. n == c.number) cs ≡ true →
     holds (λ c. test c.status) (find (λ c. n == c.number) (map (challenge_row F account) cs)) ≡ test (challenge_status n F)
 challenge_found F test n account [] h = cc
-challenge_found F test n account (c ∷ cs) h = by (n == c.number) refl h (challenge_found F test n account cs)
-  where
-    by : (b : Bool) → (n == c.number) ≡ b → (b || list_any (λ d. n == d.number) cs) ≡ true →
-        (list_any (λ d. n == d.number) cs ≡ true → holds (λ r. test r.status) (find (λ d. n == d.number) (map (challenge_row F account) cs))
-        ≡ test (challenge_status n F)) →
-        holds (λ r. test r.status) (cond b (Some (challenge_row F account c)) (find (λ d. n == d.number) (map (challenge_row F account) cs)))
-        ≡ test (challenge_status n F)
-    by true e k ih = ap (λ j. test (challenge_status j F)) (sym (eqb-true n c.number e))
-    by false e k ih = ih k
+challenge_found F test n account (c ∷ cs) h = grind (arith, (challenge_found F test n account cs))
 
 -- a challenge passes by the tables where it passes by the history
 challenge_allowed : (F : History) (m : ℕ) (test : ChallengeStatus → Bool) (n : ℕ) →
@@ -96,45 +72,19 @@ challenge_allowed F m test n =
 -- no serial below all others is found
 none_above : (q : Nonce → Bool) (k n : ℕ) (xs : List Nonce) → k < n → Ascends (λ x. x.serial) n xs → is_some (find (λ x. x.serial == k) (filter q xs)) ≡ false
 none_above q k n [] lt h = refl
-none_above q k n (x ∷ xs) lt h = by (q x) (x.serial == k) refl (none_above q k (x.serial + 1) xs (let up : n ≤ x.serial = h.0 in omega arith) h.1)
-  where
-    by : (b c : Bool) → (x.serial == k) ≡ c → is_some (find (λ y. y.serial == k) (filter q xs)) ≡ false →
-        is_some (find (λ y. y.serial == k) (cond b (x ∷ filter q xs) (filter q xs))) ≡ false
-    by true true e ih = let same : x.serial ≡ k = eqb-true x.serial k e in let up : n ≤ x.serial = h.0 in absurd (omega arith)
-    by true false e ih = ap (λ c. is_some (cond c (Some x) (find (λ y. y.serial == k) (filter q xs)))) e ∙ ih
-    by false c e ih = ih
+none_above q k n (x ∷ xs) lt h = grind (arith, (none_above q k (x.serial + 1) xs (let up : n ≤ x.serial = h.0 in omega arith) h.1))
 
 -- an open nonce is one that stands among the open ones
 nonce_open : (q : Nonce → Bool) (k n : ℕ) (xs : List Nonce) → Ascends (λ x. x.serial) n xs →
     holds q (find (λ x. x.serial == k) xs) ≡ is_some (find (λ x. x.serial == k) (filter q xs))
 nonce_open q k n [] h = refl
-nonce_open q k n (x ∷ xs) h = by (x.serial == k) refl (q x) refl (nonce_open q k (x.serial + 1) xs h.1)
-  where
-    by : (c : Bool) → (x.serial == k) ≡ c → (b : Bool) → q x ≡ b →
-        holds q (find (λ y. y.serial == k) xs) ≡ is_some (find (λ y. y.serial == k) (filter q xs)) →
-        holds q (cond c (Some x) (find (λ y. y.serial == k) xs)) ≡ is_some (find (λ y. y.serial == k) (cond b (x ∷ filter q xs) (filter q xs)))
-    by true e true r ih = r ∙ sym (ap (λ c. is_some (cond c (Some x) (find (λ y. y.serial == k) (filter q xs)))) e)
-    by true e false r ih = let same : x.serial ≡ k = eqb-true x.serial k e in r ∙ sym (none_above q k (x.serial + 1) xs (omega arith) h.1)
-    by false e true r ih = ih ∙ sym (ap (λ c. is_some (cond c (Some x) (find (λ y. y.serial == k) (filter q xs)))) e)
-    by false e false r ih = ih
+nonce_open q k n (x ∷ xs) h = grind (arith, none_above, (nonce_open q k (x.serial + 1) xs h.1))
 
 -- ---- keys
 
 -- no account has the key where no row has it
 unkeyed : (F : History) (key : List ℕ) → is_none (account_by_key key F) ≡ is_none (find (λ a. bytes_eq a.key key) (map (account_row F) (accounts F)))
-unkeyed F key =
-    sym (ap is_none (find-map (λ a. bytes_eq a.key key) (account_row F) (accounts F))
-    ∙ none-map (account_row F) (find (λ a. bytes_eq (key_of a F) key) (accounts F)))
-
--- ---- authorizations that are used again
-
--- they may be, by the history and by its tables
-reused_allowed : (F : History) (m account : ℕ) (ws : List Wanted) → list_all (may_want F m account) ws ≡ list_all (may_want_on (tables_at F m) account) ws
-reused_allowed F m account [] = refl
-reused_allowed F m account (New name tokens ∷ ws) = reused_allowed F m account ws
-reused_allowed F m account (Reused name k ∷ ws) =
-    λ i. sym (row_holds (serves account name (m + (terms F).order_life)) (λ a. a.number == k) (authorization_row F m) (authorizations F)) i
-    && reused_allowed F m account ws i
+unkeyed F key = grind (arith, find-map)
 
 -- ---- every kind but the first
 
@@ -144,26 +94,19 @@ allowed F (made t) m h = absurd h
 allowed F (issued r) m h = refl
 allowed F (spent n) m h = nonce_open (is_open F m) n 1 (nonces F) (numbered_ascends (λ x. x.serial) 1 (nonces F) (nonces_numbered F))
 allowed F (opened key cs) m h = ap (λ b. b && contacts_pass cs) (unkeyed F key)
-allowed F (contacts_changed n cs) m h =
-    ap (λ b. b && contacts_pass cs) (sym (row_holds (λ a. is_valid_account a.status) (λ a. a.number == n) (account_row F) (accounts F)))
-allowed F (key_changed n key) m h =
-    (λ i. sym (row_holds (λ a. is_valid_account a.status) (λ a. a.number == n) (account_row F) (accounts F)) i && unkeyed F key i)
+allowed F (contacts_changed n cs) m h = grind (arith, row_holds)
+allowed F (key_changed n key) m h = grind (arith, row_holds, unkeyed)
 allowed F (account_ended n s) m h = sym (row_holds (λ a. is_valid_account a.status) (λ a. a.number == n) (account_row F) (accounts F))
-allowed F (ordered n ws) m h =
-    λ i. sym (row_holds (λ a. is_valid_account a.status) (λ a. a.number == n) (account_row F) (accounts F)) i
-    && (has_length 1 most_names ws && (all_different (map wanted_name ws) && (list_all is_wanted ws && reused_allowed F m n ws i)))
+allowed F (ordered n ws) m h = grind (arith, row_holds)
 allowed F (answered n) m h = challenge_allowed F m is_pending_challenge n
 allowed F (reported n o) m h = challenge_allowed F m is_processing_challenge n
 allowed F (authorization_ended n s) m h = sym (row_holds (λ a. is_live a.status) (λ a. a.number == n) (authorization_row F m) (authorizations F))
-allowed F (finalized n csr) m h =
-    ap (λ b. b && has_length 1 longest_csr csr) (sym (row_holds (λ o. is_ready o.status) (λ o. o.number == n) (order_row F m) (orders F)))
-allowed F (certified n c) m h =
-    ap (λ b. b && has_length 1 longest_certificate c) (sym (row_holds (λ o. is_processing o.status) (λ o. o.number == n) (order_row F m) (orders F)))
+allowed F (finalized n csr) m h = grind (arith, row_holds)
+allowed F (certified n c) m h = grind (arith, row_holds)
 allowed F (failed n f) m h = ap (λ b. b && is_problem f) (sym (row_holds (λ o. is_processing o.status) (λ o. o.number == n) (order_row F m) (orders F)))
 
 -- what the tables allow keeps the history legal
 pub legal_grows : (F : History) (e : Entry) (m : ℕ) → EachFollows F → clock F ≤ m → m ≤ last_moment → IsLater e → IsFormed e →
     IsTrue (may_on (tables_at F m) e) →
     EachFollows (record { date = m; entry = e } ∷ F)
-legal_grows F e m each le fits later formed may =
-    (record { allowed = allowed F e m later ∙ may; formed = formed; in_order = le; in_time = fits }, each)
+legal_grows F e m each le fits later formed may = grind (arith, allowed)

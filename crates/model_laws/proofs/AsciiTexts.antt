@@ -1,16 +1,12 @@
 -- Bases, names and canonical texts of keys are ASCII, and so UTF-8.
-use Rattle.std.proofs.Common.{◌≡◌, ◌<◌, ℕ, suc, ◌+◌, List, [], ◌∷◌, ◌++◌, length, get_or, IsUtf8, inl, inr, refl, sym, subst, true, Bool, arith, length-append}
-use Rattle.std.specs.Prelude.{nat_le, codes}
-use Rattle.std.specs.Char.{is_ascii}
-use Rattle.std.specs.List.{list_all, join_with_byte}
-use Rattle.std.proofs.Math.Seq.{take-append_seam, drop-append-add, get_or-append_seam}
-use Rattle.std.proofs.lemmas.{Bool.and_parts, Bool.Decides.nat_tests, List.Splits.join_with_byte-slice_split, List.Sums.AllPass-from_list_all}
-use Rattle.std.proofs.lemmas.{Str.Ascii.IsAscii-from_all}
+use Rattle.std.proofs.Common.{◌≡◌, ◌<◌, ℕ, suc, ◌+◌, List, [], ◌∷◌, ◌++◌, length, get_or, IsUtf8, refl, sym, subst, true, Bool, arith, length-append}
 use Rattle.std.proofs.lemmas.Str.{IsUtf8-append, IsUtf8-drop, IsUtf8-from_ascii, IsUtf8-nil, IsUtf8-take, IsCharBoundary-before_ascii}
 use Rattle.std.proofs.lemmas.Str.{IsCharBoundary-after_ascii}
-use Rattle.desk_model.specs.BaseName.{is_base_name, is_label, is_label_byte, labels_of}
+use Rattle.std.proofs.{Math.Seq.take-append_seam, Math.Seq.drop-append-add, Math.Seq.get_or-append_seam, lemmas.Bool.and_parts, lemmas.Bool.Decides.nat_tests}
+use Rattle.std.proofs.{lemmas.List.Splits.join_with_byte-slice_split, lemmas.List.Sums.AllPass-from_list_all, lemmas.Str.Ascii.IsAscii-from_all}
+use Rattle.std.specs.{Prelude.codes, Char.is_ascii, List.list_all, List.join_with_byte}
 use Rattle.desk_model.specs.Keys.{Key, ec, rsa, okp, IsCurve, IsKey, IsKeyText, canonical_text, is_base64url_byte, is_number_text}
-use Rattle.desk_model.specs.Terms.{Terms, are_terms, has_scheme, is_base, is_base_byte}
+use Rattle.desk_model.specs.{BaseName.is_base_name, BaseName.is_label, BaseName.is_label_byte, Terms.Terms, Terms.are_terms}
 
 -- ---- ASCII
 
@@ -50,10 +46,7 @@ parted front b rest whole ascii =
 
 -- the base of a desk's URLs is a text
 pub base_text : (t : Terms) → are_terms t ≡ true → IsUtf8 t.base
-base_text t h =
-    let formed = (and_parts (is_base t.base) _ h).0 in
-    let bytes = (and_parts (has_scheme t.base) _ formed).1 in
-    passing_text is_base_byte (λ c k. grind (arith, nat_tests)) t.base (and_parts (list_all is_base_byte t.base) _ (and_parts _ _ bytes).1).0
+base_text t h = grind (arith, nat_tests, and_parts, passing_text)
 
 -- ---- names
 
@@ -71,9 +64,7 @@ joined_text (l ∷ k ∷ labels) h =
 
 -- a base name is a text
 pub base_name_text : (name : List ℕ) → is_base_name name ≡ true → IsUtf8 name
-base_name_text name h =
-    let labels = (and_parts (list_all is_label (labels_of name)) _ (and_parts (nat_le (length name) 253) _ h).1).0 in
-    subst IsUtf8 (join_with_byte-slice_split 46 name) (joined_text (labels_of name) labels)
+base_name_text name h = grind (arith, nat_tests, and_parts, join_with_byte-slice_split, joined_text, (join_with_byte-slice_split 46 name))
 
 -- ---- keys
 
@@ -83,9 +74,7 @@ number_text s h = passing_text is_base64url_byte (λ c k. grind (arith, nat_test
 
 -- so is the name of a curve
 curve_text : (curve : List ℕ) → IsCurve curve → IsUtf8 curve
-curve_text curve (inl p) = subst IsUtf8 (sym p) (ascii_text (codes "P-256") refl)
-curve_text curve (inr (inl p)) = subst IsUtf8 (sym p) (ascii_text (codes "P-384") refl)
-curve_text curve (inr (inr p)) = subst IsUtf8 (sym p) (ascii_text (codes "P-521") refl)
+curve_text curve h = grind (arith, ascii_text)
 
 -- a text behind ASCII bytes
 ascii_then : (bytes rest : List ℕ) → list_all is_ascii bytes ≡ true → IsUtf8 rest → IsUtf8 (bytes ++ rest)

@@ -1,27 +1,19 @@
 -- Small lemmas on options and lists.
-use Rattle.std.proofs.Common.{◌≡◌, ◌<◌, ◌≢◌, ℕ, ◌+◌, List, [], ◌∷◌, ◌++◌, length, map, Option, Some, None, refl, sym, ap, ◌∙◌, subst, true, false, Bool, cond}
-use Rattle.std.proofs.Common.{arith}
-use Rattle.std.specs.Prelude.{◌==◌, ◌||◌, find, is_some, IsSome}
-use Rattle.std.specs.{List.list_any, Option.option_map}
-use Rattle.std.proofs.lemmas.Bool.{eqb-true, eq-eqb, ne_eqb}
+use Rattle.std.proofs.Common.{◌≡◌, ◌<◌, ℕ, ◌+◌, List, [], ◌∷◌, ◌++◌, length, map, Option, Some, None, refl, ap, subst, true, false, Bool, cond, arith}
+use Rattle.std.specs.{Prelude.◌==◌, Prelude.◌||◌, Prelude.find, Prelude.is_some, Prelude.IsSome, List.list_any, Option.option_map}
 use Rattle.desk_model.specs.{History.earlier, Kept.EachOf, Lookup.holds}
 
 -- what came first stays first
 pub earlier-some : {X : Type 0} (x : X) (o : Option X) → earlier (Some x) o ≡ Some x
-earlier-some x None = refl
-earlier-some x (Some y) = refl
+earlier-some x o = grind arith
 
 -- the first fact after none
 pub none_earlier : {X : Type 0} (o : Option X) → earlier None o ≡ o
-none_earlier None = refl
-none_earlier (Some x) = refl
+none_earlier o = grind arith
 
 -- there is a first fact where there is one of the two
 pub is_some-earlier : {X : Type 0} (x y : Option X) → is_some (earlier x y) ≡ (is_some x || is_some y)
-is_some-earlier None None = refl
-is_some-earlier None (Some y) = refl
-is_some-earlier (Some x) None = refl
-is_some-earlier (Some x) (Some y) = refl
+is_some-earlier x y = grind arith
 
 -- a test of some mapped item
 pub list_any-map : {X Y : Type 0} (p : Y → Bool) (f : X → Y) (xs : List X) → list_any p (map f xs) ≡ list_any (λ x. p (f x)) xs
@@ -30,19 +22,12 @@ list_any-map p f (x ∷ xs) = ap (λ b. p (f x) || b) (list_any-map p f xs)
 
 -- equal tests pass the same lists
 pub list_any-same : {X : Type 0} (p q : X → Bool) (xs : List X) → ((x : X) → p x ≡ q x) → list_any p xs ≡ list_any q xs
-list_any-same p q [] h = refl
-list_any-same p q (x ∷ xs) h = ap (λ b. p x || b) (list_any-same p q xs h) ∙ ap (λ b. b || list_any q xs) (h x)
+list_any-same p q xs h = grind arith
 
 -- some item passes one of two tests
 pub any_or : {X : Type 0} (p q : X → Bool) (xs : List X) → list_any (λ x. p x || q x) xs ≡ (list_any p xs || list_any q xs)
 any_or p q [] = refl
-any_or p q (x ∷ xs) = by (p x) (q x) (list_any p xs) (list_any q xs) (list_any (λ x. p x || q x) xs) (any_or p q xs)
-  where
-    by : (a b c d e : Bool) → e ≡ (c || d) → ((a || b) || e) ≡ ((a || c) || (b || d))
-    by true b c d e h = refl
-    by false true true d e h = refl
-    by false true false d e h = refl
-    by false false c d e h = h
+any_or p q (x ∷ xs) = grind (arith, (any_or p q xs))
 
 -- what follows from what holds of each item
 pub each : {X : Type 0} (P Q : X → Type 0) (xs : List X) → ((x : X) → P x → Q x) → EachOf P xs → EachOf Q xs
@@ -77,35 +62,21 @@ map-moved f move g (x ∷ xs) h = λ i. h.0 i ∷ map-moved f move g xs h.1 i
 -- the first mapped item that passes
 pub find-map : {X Y : Type 0} (p : Y → Bool) (f : X → Y) (xs : List X) → find p (map f xs) ≡ option_map f (find (λ x. p (f x)) xs)
 find-map p f [] = refl
-find-map p f (x ∷ xs) = by (p (f x)) (find-map p f xs)
-  where
-    by : (b : Bool) → find p (map f xs) ≡ option_map f (find (λ x. p (f x)) xs) →
-        cond b (Some (f x)) (find p (map f xs)) ≡ option_map f (cond b (Some x) (find (λ x. p (f x)) xs))
-    by true h = refl
-    by false h = h
+find-map p f (x ∷ xs) = grind (arith, (find-map p f xs))
 
 -- what is found stays found
 pub find-append : {X : Type 0} (p : X → Bool) (xs ys : List X) (x : X) → find p xs ≡ Some x → find p (xs ++ ys) ≡ Some x
 find-append p [] ys x h = cc
-find-append p (y ∷ xs) ys x h = by (p y) h (find-append p xs ys x)
-  where
-    by : (b : Bool) → cond b (Some y) (find p xs) ≡ Some x → (find p xs ≡ Some x → find p (xs ++ ys) ≡ Some x) → cond b (Some y) (find p (xs ++ ys)) ≡ Some x
-    by true k ih = k
-    by false k ih = ih k
+find-append p (y ∷ xs) ys x h = grind (arith, (find-append p xs ys x))
 
 -- and what is there stays there
 pub still_some : {X : Type 0} (p : X → Bool) (xs ys : List X) → IsSome (find p xs) → IsSome (find p (xs ++ ys))
 still_some p [] ys h = cc
-still_some p (x ∷ xs) ys h = by (p x) h (still_some p xs ys)
-  where
-    by : (b : Bool) → IsSome (cond b (Some x) (find p xs)) → (IsSome (find p xs) → IsSome (find p (xs ++ ys))) → IsSome (cond b (Some x) (find p (xs ++ ys)))
-    by true k ih = refl
-    by false k ih = ih k
+still_some p (x ∷ xs) ys h = grind (arith, (still_some p xs ys))
 
 -- what passes a test is there
 pub there : {X : Type 0} (test : X → Bool) (o : Option X) → holds test o ≡ true → IsSome o
-there test None h = cc
-there test (Some x) h = refl
+there test o h = grind arith
 
 -- what holds of moved items
 pub each_of_map : {X Y : Type 0} (P : Y → Type 0) (f : X → Y) (xs : List X) → EachOf P (map f xs) → EachOf (λ x. P (f x)) xs
@@ -140,30 +111,16 @@ each_both P Q (x ∷ xs) h k = ((h.0, k.0), each_both P Q xs h.1 k.1)
 
 -- numbers apart
 pub less_differs : (a b : ℕ) → a < b → (a == b) ≡ false
-less_differs a b lt = ne_eqb a b (apart a b lt)
-  where
-    apart : (a b : ℕ) → a < b → a ≢ b
-    apart a b lt = omega arith
+less_differs a b lt = grind arith
 
 -- and so the other way round
 pub more_differs : (a b : ℕ) → b < a → (a == b) ≡ false
-more_differs a b lt = ne_eqb a b (apart a b lt)
-  where
-    apart : (a b : ℕ) → b < a → a ≢ b
-    apart a b lt = omega arith
+more_differs a b lt = grind arith
 
 -- numbers compare alike from either side
 pub eq_turn : (a b : ℕ) → (a == b) ≡ (b == a)
-eq_turn a b = by (a == b) refl
-  where
-    apart : (a == b) ≡ false → b ≢ a
-    apart e same = let is : (a == b) ≡ true = eq-eqb a b (sym same) in cc
-
-    by : (c : Bool) → (a == b) ≡ c → c ≡ (b == a)
-    by true e = sym (eq-eqb b a (sym (eqb-true a b e)))
-    by false e = sym (ne_eqb b a (apart e))
+eq_turn a b = grind arith
 
 -- a row that is moved or not keeps what both have
 pub one_kept : {X Y : Type 0} (value : X → Y) (b : Bool) (x y : X) → value x ≡ value y → value (cond b x y) ≡ value y
-one_kept value true x y h = h
-one_kept value false x y h = refl
+one_kept value b x y h = grind arith

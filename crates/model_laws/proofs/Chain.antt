@@ -1,22 +1,17 @@
 -- Several entries on a part.
-use Rattle.std.proofs.Common.{◌≡◌, ◌≤◌, ◌<◌, ℕ, ◌+◌, List, [], ◌∷◌, ◌++◌, map, filter, refl, sym, ap, ◌∙◌, true, Bool, cond, arith}
-use Rattle.desk_model.specs.{Entry.History, Legal.EachFollows, Nonce.issued_by, Account.opened_by, Order.ordered_by}
-use Rattle.desk_model.specs.History.{clock, record_all}
-use Rattle.desk_model.specs.Tables.{Tables, picture}
-use Rattle.desk_model.specs.Derived.{numbers_of, restated_authorization, restated_order}
+use Rattle.std.proofs.Common.{◌≡◌, ◌≤◌, ◌<◌, ℕ, ◌+◌, List, [], ◌∷◌, ◌++◌, map, filter, refl, ap, ◌∙◌, true, Bool, cond, arith, rules}
 use Rattle.desk_model.specs.Effect.{noted_order, touches_account, touches_order, moved_account, moved_authorization, moved_order, fresh_account}
 use Rattle.desk_model.specs.Effect.{fresh_authorization, fresh_order, not_spent, new_authorizations, authorizations_after, effect, effects, swept}
-use Rattle.desk_model.specs.Change.{all_changes, recorded_changes, applied}
 use Rattle.desk_model.specs.Kept.{Kept, restricted, EachOf, IsClosed, CoversSweep, HoldersKept}
-use Rattle.desk_model.specs.declared.{entry.Entry.Entry, objects.Nonce.Nonce, rows.AccountRow.AccountRow, rows.AuthorizationRow.AuthorizationRow}
-use Rattle.desk_model.specs.declared.{rows.Change.TheVariants.PutMeta, rows.OrderRow.OrderRow}
-use Rattle.model_laws.specs.Ordered.{Ascends}
-use Rattle.model_laws.specs.Parts.{FreshKept, CoversAll}
-use Rattle.model_laws.proofs.Basics.{each, each_all, one_kept}
-use Rattle.model_laws.proofs.Recorded.{issued_up, opened_up, ordered_up, made_up, recorded}
-use Rattle.model_laws.proofs.Step.{filter-append}
+use Rattle.desk_model.specs.{Entry.History, Legal.EachFollows, Nonce.issued_by, Account.opened_by, Order.ordered_by, History.clock, History.record_all}
+use Rattle.desk_model.specs.{Tables.Tables, Tables.picture, Derived.numbers_of, Derived.restated_authorization, Derived.restated_order, Change.all_changes}
+use Rattle.desk_model.specs.{Change.recorded_changes, Change.applied, declared.entry.Entry.Entry, declared.rows.AccountRow.AccountRow}
+use Rattle.desk_model.specs.{declared.rows.AuthorizationRow.AuthorizationRow, declared.rows.Change.TheVariants.PutMeta, declared.rows.OrderRow.OrderRow}
+use Rattle.model_laws.specs.{Ordered.Ascends, Parts.FreshKept, Parts.CoversAll}
+use Rattle.model_laws.proofs.Recorded.{opened_up, ordered_up, made_up, recorded}
 use Rattle.model_laws.proofs.Local.{all_moved_same, filters_swap, filter_all, moved_part, restated_same, kept_after, moved_number, touches_same, changes_local}
 use Rattle.model_laws.proofs.Local.{sweep_changes_local, swept_part}
+use Rattle.model_laws.proofs.{Basics.each, Basics.each_all, Basics.one_kept, Step.filter-append}
 
 -- new rows are kept
 pub up_kept : {X : Type 0} (number : X → ℕ) (kept : ℕ → Bool) (count : ℕ) → ((n : ℕ) → count < n → kept n ≡ true) → (n : ℕ) → count < n →
@@ -30,9 +25,7 @@ part_on : {X : Type 0} (number : X → ℕ) (kept : ℕ → Bool) (f g : X → X
     EachOf (λ x. kept (number x) ≡ true → f x ≡ g x) xs →
     fresh ≡ fresh' → EachOf (λ x. kept (number x) ≡ true) fresh' → map f (filter (λ x. kept (number x)) xs) ++ fresh
     ≡ filter (λ x. kept (number x)) (map g xs ++ fresh')
-part_on number kept f g xs fresh fresh' same each_same e all =
-    (λ i. moved_part (λ x. kept (number x)) f g xs (λ x. ap kept (same x)) each_same i ++ (e ∙ sym (filter_all (λ x. kept (number x)) fresh' all)) i)
-    ∙ sym (filter-append (λ x. kept (number x)) (map g xs) fresh')
+part_on number kept f g xs fresh fresh' same each_same e all = grind (arith, moved_part, filter_all, filter-append)
 
 -- a moved account keeps its number
 pub account_number : (e : Entry) (m : ℕ) (row : AccountRow) → (moved_account e m row).number ≡ row.number
@@ -97,12 +90,7 @@ effect_part k T m e closed holders fresh =
   where
     nonces_part : filter (not_spent e) (filter (λ n. k.nonces n.serial) T.nonces) ++ issued_by e m (T.meta.counters.nonces + 1)
         ≡ filter (λ n. k.nonces n.serial) (filter (not_spent e) T.nonces ++ issued_by e m (T.meta.counters.nonces + 1))
-    nonces_part =
-        (λ i. filters_swap (not_spent e) (λ n. k.nonces n.serial) T.nonces i
-        ++ sym (filter_all (λ n. k.nonces n.serial) (issued_by e m (T.meta.counters.nonces + 1))
-        (up_kept (λ (n : Nonce). n.serial) k.nonces T.meta.counters.nonces closed.new_nonces (T.meta.counters.nonces + 1) (omega arith) _
-        (issued_up e m (T.meta.counters.nonces + 1)))) i)
-        ∙ sym (filter-append (λ n. k.nonces n.serial) (filter (not_spent e) T.nonces) (issued_by e m (T.meta.counters.nonces + 1)))
+    nonces_part = grind (arith, filters_swap, filter-append)
 
 -- the part changes as the whole by entries in a row
 pub all_changes_local : (k : Kept) (m : ℕ) (T : Tables) (es : List Entry) → CoversAll k m T es → all_changes m (restricted k T) es ≡ all_changes m T es
@@ -131,7 +119,4 @@ pub part_recorded : (F : History) (k : Kept) (e : Entry) (es : List Entry) (m : 
     IsClosed k (picture F) → CoversSweep k (picture F) m → CoversAll k m (swept m (picture F)) (e ∷ es) →
     (let P : Tables = restricted k (picture F) in
     applied (recorded_changes m P (e ∷ es)) (picture F) ≡ picture (record_all m (e ∷ es) F))
-part_recorded F k e es m le follows closed covers_sweep covers =
-    let T : Tables = picture F in
-    ap (λ cs. applied cs T) (recorded_local k T m (e ∷ es) closed covers_sweep covers)
-    ∙ recorded F e es m le follows
+part_recorded F k e es m le follows closed covers_sweep covers = search (rules, recorded_local, recorded)

@@ -1,25 +1,16 @@
 -- A row that does not differ afterwards is the row itself, and one that differs is another.
-use Rattle.std.proofs.Common.{◌≡◌, ℕ, List, [], ◌∷◌, map, Some, refl, sym, ap, ◌∙◌, true, false, Bool, cond, get_or, not}
-use Rattle.std.specs.Prelude.{◌==◌, ◌||◌, bytes_eq}
-use Rattle.std.specs.Cmp.Lexicographic.{pointwise}
-use Rattle.std.specs.List.{list_any, zip}
-use Rattle.std.proofs.lemmas.Bool.{eqb-true, eq-eqb, or_parts}
-use Rattle.std.proofs.lemmas.Slice.Eq.{bytes_eq-Decides, slice_eq-Decides}
-use Rattle.desk_model.specs.{Account.ends as account_ends, Keys.thumbprint, Kept.EachOf}
-use Rattle.desk_model.specs.Derived.{account_code, chall_code, authz_code, order_code, derived_order, restated_authorization, restated_order}
-use Rattle.desk_model.specs.Effect.{key_numbered, noted_account, noted_challenge, answered_challenge, reported_challenge, noted_authorization, noted_order}
+use Rattle.std.proofs.Common.{◌≡◌, ℕ, List, [], ◌∷◌, map, refl, sym, ap, ◌∙◌, true, false, Bool, get_or, not, arith}
+use Rattle.std.proofs.{lemmas.Bool.eq-eqb, lemmas.Bool.or_parts, lemmas.Slice.Eq.bytes_eq-Decides, lemmas.Slice.Eq.slice_eq-Decides}
+use Rattle.std.specs.{Prelude.◌==◌, Prelude.◌||◌, Prelude.bytes_eq, Cmp.Lexicographic.pointwise, List.list_any, List.zip}
+use Rattle.desk_model.specs.Derived.{account_code, chall_code, authz_code, order_code, restated_authorization, restated_order}
+use Rattle.desk_model.specs.Effect.{key_numbered, noted_account, noted_challenge, noted_authorization, noted_order}
 use Rattle.desk_model.specs.Change.{is_gained, account_differs, challenge_differs, authorization_differs, order_differs}
-use Rattle.desk_model.specs.declared.{entry.Entry.Entry, rows.AccountRow.AccountRow, rows.ChallengeRow.ChallengeRow, rows.AuthorizationRow.AuthorizationRow}
-use Rattle.desk_model.specs.declared.{rows.OrderRow.OrderRow, status.AccountStatus.AccountStatus, status.ChallengeStatus.ChallengeStatus}
-use Rattle.desk_model.specs.declared.{status.AuthzStatus.AuthzStatus, status.OrderStatus.OrderStatus}
-use Rattle.desk_model.specs.declared.entry.Entry.TheVariants.{Answered as answered, Reported as reported}
+use Rattle.desk_model.specs.{Account.ends as account_ends, Kept.EachOf, declared.entry.Entry.Entry, declared.rows.AccountRow.AccountRow}
+use Rattle.desk_model.specs.{declared.rows.ChallengeRow.ChallengeRow, declared.rows.AuthorizationRow.AuthorizationRow, declared.rows.OrderRow.OrderRow}
 use Rattle.desk_model.specs.declared.status.AccountStatus.TheVariants as account
-use Rattle.desk_model.specs.declared.status.ChallengeStatus.TheVariants as chall
 use Rattle.desk_model.specs.declared.status.AuthzStatus.TheVariants as authz
-use Rattle.desk_model.specs.declared.status.OrderStatus.TheVariants as order
-use Rattle.model_laws.proofs.OrderDates.{order_dates_kept, order_status_differs}
-use Rattle.model_laws.proofs.RowFacts.{kept_challenges}
-use Rattle.model_laws.proofs.StatedFacts.{earlier_stays, none_gained}
+use Rattle.model_laws.proofs.{OrderDates.order_dates_kept, OrderDates.order_status_differs, RowFacts.kept_challenges, StatedFacts.earlier_stays}
+use Rattle.model_laws.proofs.{StatedFacts.none_gained}
 
 -- ---- statuses by their codes
 
@@ -30,37 +21,21 @@ AreCoded {S} code first more = (s : S) → get_or (first ∷ more) (code s) firs
 -- of accounts
 account_coded : AreCoded account_code account.Valid (account.Deactivated ∷ account.Revoked ∷ [])
 unfolding AreCoded
-account_coded account.Valid = refl
-account_coded _ = refl
-
--- of challenges
-chall_coded : AreCoded chall_code chall.Pending (chall.Processing ∷ chall.Valid ∷ chall.Invalid ∷ [])
-unfolding AreCoded
-chall_coded chall.Pending = refl
-chall_coded _ = refl
+account_coded h = grind arith
 
 -- of authorizations
 authz_coded : AreCoded authz_code authz.Pending (authz.Valid ∷ authz.Invalid ∷ authz.Deactivated ∷ authz.Expired ∷ authz.Revoked ∷ [])
 unfolding AreCoded
-authz_coded authz.Pending = refl
-authz_coded _ = refl
-
--- of orders
-order_coded : AreCoded order_code order.Pending (order.Ready ∷ order.Processing ∷ order.Valid ∷ order.Invalid ∷ [])
-unfolding AreCoded
-order_coded order.Pending = refl
-order_coded _ = refl
+authz_coded h = grind arith
 
 -- a test whose negation fails
 unnegated : (b : Bool) → not b ≡ false → b ≡ true
-unnegated true h = refl
-unnegated false h = cc
+unnegated b h = grind arith
 
 -- equal codes are of equal values
 same_coded : {S : Type 0} (code : S → ℕ) (first : S) (more : List S) → AreCoded code first more → (a b : S) → not (code a == code b) ≡ false → b ≡ a
 unfolding AreCoded
-same_coded code first more coded a b h =
-    sym (coded b) ∙ (ap (λ n. get_or (first ∷ more) n first) (sym (eqb-true (code a) (code b) (unnegated (code a == code b) h))) ∙ coded a)
+same_coded code first more coded a b h = grind arith
 
 -- a value's code is its own
 own_code : (n : ℕ) → not (n == n) ≡ false
@@ -91,44 +66,14 @@ account_unmoved e m row h =
 
 -- no account's row differs from itself
 pub account_differs_not : (row : AccountRow) → account_differs row row ≡ false
-account_differs_not row =
-    λ i. not (key i) || (not (contacts i) || (none_gained row.ended i || own_code (account_code row.status) i))
-  where
-    key : bytes_eq row.key row.key ≡ true
-    key = (bytes_eq-Decides row.key row.key).1 refl
-
-    contacts : pointwise bytes_eq row.contacts row.contacts ≡ true
-    contacts = (slice_eq-Decides bytes_eq-Decides row.contacts row.contacts (pointwise bytes_eq row.contacts row.contacts) refl).1 refl
+account_differs_not row = grind (arith, slice_eq-Decides)
 
 -- ---- challenges
 
 -- a challenge's row that does not differ is the same
 pub challenge_unmoved : (e : Entry) (m : ℕ) (key : List ℕ) (row : ChallengeRow) → challenge_differs row (noted_challenge e m key row) ≡ false →
     noted_challenge e m key row ≡ row
-challenge_unmoved (answered n) m key row h = by (n == row.number) h
-  where
-    by : (b : Bool) → challenge_differs row (cond b (answered_challenge m key row) row) ≡ false → cond b (answered_challenge m key row) row ≡ row
-    by true k =
-        let p = or_parts (is_gained row.answered (answered_challenge m key row).answered) _ k in
-        let q = or_parts (is_gained row.reported row.reported) _ p.1 in
-        let fact : (answered_challenge m key row).answered ≡ row.answered =
-        earlier_stays row.answered (Some (record { date = m; thumb = thumbprint key })) p.0 in
-        let status : (answered_challenge m key row).status ≡ row.status =
-        same_coded chall_code _ _ chall_coded row.status (answered_challenge m key row).status q.1 in
-        λ i. record row { answered = fact i; status = status i }
-    by false k = refl
-challenge_unmoved (reported n o) m key row h = by (n == row.number) h
-  where
-    by : (b : Bool) → challenge_differs row (cond b (reported_challenge o m row) row) ≡ false → cond b (reported_challenge o m row) row ≡ row
-    by true k =
-        let p = or_parts (is_gained row.answered row.answered) _ k in
-        let q = or_parts (is_gained row.reported (reported_challenge o m row).reported) _ p.1 in
-        let fact : (reported_challenge o m row).reported ≡ row.reported = earlier_stays row.reported (Some (record { date = m; outcome = o })) q.0 in
-        let status : (reported_challenge o m row).status ≡ row.status =
-        same_coded chall_code _ _ chall_coded row.status (reported_challenge o m row).status q.1 in
-        λ i. record row { reported = fact i; status = status i }
-    by false k = refl
-challenge_unmoved _ m key row h = refl
+challenge_unmoved e m key row h = grind arith
 
 -- no challenge's row differs from itself
 challenge_differs_not : (row : ChallengeRow) → challenge_differs row row ≡ false
@@ -174,11 +119,7 @@ authorization_differs_not row = λ i. none_gained row.ended i || (own_code (auth
 -- an order's row that does not differ is the same
 pub order_unmoved : (e : Entry) (m : ℕ) (rows : List AuthorizationRow) (row : OrderRow) →
     order_differs row (restated_order m rows (noted_order e m row)) ≡ false → restated_order m rows (noted_order e m row) ≡ row
-order_unmoved e m rows row h =
-    let s : OrderStatus = derived_order m rows (noted_order e m row) in
-    let p = order_dates_kept e m row s h in
-    let status : s ≡ row.status = same_coded order_code _ _ order_coded row.status s p.1 in
-    λ i. record (p.0 i) { status = status i }
+order_unmoved e m rows row h = grind (arith, order_dates_kept)
 
 -- no order's row differs from itself
 pub order_differs_not : (row : OrderRow) → order_differs row row ≡ false

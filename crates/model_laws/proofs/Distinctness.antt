@@ -2,8 +2,7 @@
 use Rattle.std.proofs.Common.{◌≡◌, ◌≢◌, ◌<◌, ℕ, ◌+◌, List, [], ◌∷◌, ◌++◌, map, sym, arith}
 use Rattle.desk_model.specs.Kept.{EachOf}
 use Rattle.model_laws.specs.{Distinct.Distinct, Ordered.Ascends}
-use Rattle.model_laws.proofs.Basics.{each, each_both, each_of_map, each_parts, each-append, each-map}
-use Rattle.model_laws.proofs.RowLists.{ascends_above}
+use Rattle.model_laws.proofs.{Basics.each, Basics.each_both, Basics.each_of_map, Basics.each_parts, Basics.each-append, Basics.each-map, RowLists.ascends_above}
 
 -- lists that share no value
 pub distinct-append : {X Y : Type 0} (value : X → Y) (xs ys : List X) → Distinct value xs → Distinct value ys →

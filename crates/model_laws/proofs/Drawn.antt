@@ -1,7 +1,6 @@
 -- What a new order draws from random bytes.
 use Rattle.std.proofs.Common.{◌≡◌, ℕ, suc, zero, List, [], ◌∷◌, length, refl, ap}
-use Rattle.desk_model.specs.{Name.Name, Tables.Tables}
-use Rattle.desk_model.specs.Rules.{pieces, wanted}
+use Rattle.desk_model.specs.{Name.Name, Tables.Tables, Rules.pieces, Rules.wanted}
 
 -- as many are wanted as there are names
 pub length-wanted : (T : Tables) (account : ℕ) (ns : List Name) (random : List ℕ) → length (wanted T account ns random) ≡ length ns

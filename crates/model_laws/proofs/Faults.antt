@@ -1,8 +1,7 @@
 -- The tables of a legal history have no status fault.
-use Rattle.std.proofs.Common.{◌≡◌, ℕ, List, [], ◌∷◌, ◌++◌, map, refl, sym, ap, true, false, Bool, cond}
-use Rattle.std.specs.Prelude.{◌==◌, nat_le}
-use Rattle.std.specs.List.{flat_map}
+use Rattle.std.proofs.Common.{◌≡◌, ℕ, List, [], ◌∷◌, ◌++◌, map, refl, sym, ap, cond, arith, rules}
 use Rattle.std.proofs.lemmas.Bool.{eq-eqb}
+use Rattle.std.specs.{Prelude.◌==◌, List.flat_map}
 use Rattle.desk_model.specs.{Entry.History, Account.accounts, Order.orders, Legal.EachFollows, Kept.EachOf}
 use Rattle.desk_model.specs.Authorization.{authorizations, challenge_status_by, report}
 use Rattle.desk_model.specs.Tables.{account_row, challenge_row, authorization_row, order_row, tables_at}
@@ -10,9 +9,7 @@ use Rattle.desk_model.specs.Derived.{unless, chall_code, order_code, authz_code,
 use Rattle.desk_model.specs.Derived.{insert_challenge, sorted_challenges, status_faults}
 use Rattle.desk_model.specs.declared.{objects.Authorization.Authorization, objects.Challenge.Challenge, rows.AuthorizationRow.AuthorizationRow}
 use Rattle.desk_model.specs.declared.{rows.ChallengeRow.ChallengeRow, rows.OrderRow.OrderRow, rows.StatusFault.StatusFault}
-use Rattle.model_laws.proofs.Basics.{each_all, each-append}
-use Rattle.model_laws.proofs.RowFacts.{answered_alike, authorization_stated}
-use Rattle.model_laws.proofs.OrderFacts.{order_stated}
+use Rattle.model_laws.proofs.{Basics.each_all, Basics.each-append, RowFacts.answered_alike, RowFacts.authorization_stated, OrderFacts.order_stated}
 
 -- rows without a fault, one by one
 none_of : {X Y : Type 0} (row : X → Y) (faults : Y → List StatusFault) (xs : List X) → EachOf (λ x. faults (row x) ≡ []) xs → flat_map faults (map row xs) ≡ []
@@ -31,11 +28,7 @@ no_faults_of faults (y ∷ ys) h = λ i. h.0 i ++ no_faults_of faults ys h.1 i
 -- what holds of each challenge holds of each when they are sorted
 each_inserted : (P : ChallengeRow → Type 0) (c : ChallengeRow) (cs : List ChallengeRow) → P c → EachOf P cs → EachOf P (insert_challenge c cs)
 each_inserted P c [] p h = (p, tt)
-each_inserted P c (d ∷ ds) p h = by (nat_le c.number d.number) (each_inserted P c ds p h.1)
-  where
-    by : (b : Bool) → EachOf P (insert_challenge c ds) → EachOf P (cond b (c ∷ d ∷ ds) (d ∷ insert_challenge c ds))
-    by true k = (p, h)
-    by false k = (h.0, k)
+each_inserted P c (d ∷ ds) p h = grind (arith, (each_inserted P c ds p h.1))
 
 -- and so when all are sorted
 each_sorted : (P : ChallengeRow → Type 0) (cs : List ChallengeRow) → EachOf P cs → EachOf P (sorted_challenges cs)
@@ -59,15 +52,8 @@ all_fine F t (a ∷ xs) = each-append _ (map (challenge_row F a.account) a.chall
 -- by kind, no row has a fault
 pub no_faults : (F : History) (t : ℕ) → EachFollows F → status_faults (tables_at F t) ≡ []
 no_faults F t h =
-    let accounts_fine : flat_map account_faults (map (account_row F) (accounts F)) ≡ [] =
-    none_of (account_row F) account_faults (accounts F) (each_all _ (accounts F) (λ a. no_fault _ _ _ refl)) in
-    let orders_fine : flat_map (order_faults t (map (authorization_row F t) (authorizations F))) (map (order_row F t) (orders F)) ≡ [] =
-    none_of (order_row F t) (order_faults t (map (authorization_row F t) (authorizations F))) (orders F)
-    (each_all _ (orders F) (λ o. no_fault _ _ _ (ap (λ (r : OrderRow). order_code r.status) (order_stated F t t o)))) in
-    let authorizations_fine : flat_map (authorization_faults t) (map (authorization_row F t) (authorizations F)) ≡ [] =
-    none_of (authorization_row F t) (authorization_faults t) (authorizations F)
-    (each_all _ (authorizations F) (λ a. no_fault _ _ _ (ap (λ (r : AuthorizationRow). authz_code r.status) (authorization_stated F h t t a)))) in
-    let challenges_fine : flat_map challenge_faults
-    (sorted_challenges (flat_map (λ (a : AuthorizationRow). a.challenges) (map (authorization_row F t) (authorizations F)))) ≡ [] =
-    no_faults_of challenge_faults _ (each_sorted _ _ (all_fine F t (authorizations F))) in
-    λ i. accounts_fine i ++ (orders_fine i ++ (authorizations_fine i ++ challenges_fine i))
+    let accounts_fine : flat_map account_faults (map (account_row F) (accounts F)) ≡ [] = none_of (account_row F) account_faults (accounts F) (each_all _ (accounts F) (λ a. no_fault _ _ _ refl)) in
+    let orders_fine : flat_map (order_faults t (map (authorization_row F t) (authorizations F))) (map (order_row F t) (orders F)) ≡ [] = none_of (order_row F t) (order_faults t (map (authorization_row F t) (authorizations F))) (orders F) (each_all _ (orders F) (λ o. no_fault _ _ _ (ap (λ (r : OrderRow). order_code r.status) (order_stated F t t o)))) in
+    let authorizations_fine : flat_map (authorization_faults t) (map (authorization_row F t) (authorizations F)) ≡ [] = none_of (authorization_row F t) (authorization_faults t) (authorizations F) (each_all _ (authorizations F) (λ a. no_fault _ _ _ (ap (λ (r : AuthorizationRow). authz_code r.status) (authorization_stated F h t t a)))) in
+    let challenges_fine : flat_map challenge_faults (sorted_challenges (flat_map (λ (a : AuthorizationRow). a.challenges) (map (authorization_row F t) (authorizations F)))) ≡ [] = no_faults_of challenge_faults _ (each_sorted _ _ (all_fine F t (authorizations F))) in
+    search rules

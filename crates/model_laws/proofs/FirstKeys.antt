@@ -1,49 +1,21 @@
 -- Where no account got another key, each answer was under the key that its account has now.
-use Rattle.std.proofs.Common.{◌≡◌, ◌<◌, ℕ, ◌+◌, List, [], ◌∷◌, ◌++◌, length, map, Option, Some, None, refl, sym, ap, ◌∙◌, subst, true, false, Bool, cond, arith}
-use Rattle.std.specs.Prelude.{◌==◌, IfSome, IsSome, find, unwrap_or}
-use Rattle.desk_model.specs.Account.{account_by_number, account_key, accounts, key_if, opened_by, rekeying}
+use Rattle.std.proofs.Common.{◌≡◌, ◌<◌, ℕ, ◌+◌, List, [], ◌∷◌, ◌++◌, length, map, Option, None, sym, ap, subst, Bool, arith}
+use Rattle.std.specs.Prelude.{IfSome, IsSome, find}
 use Rattle.desk_model.specs.Authorization.{answer, answer_by, answering, authorizations, challenges_from, count_challenges, kinds_of, made_by, made_for}
-use Rattle.desk_model.specs.{Effect.fresh_challenge, Entry.History, Keys.thumbprint, Kept.EachOf, Legal.EachFollows}
-use Rattle.desk_model.specs.History.{earlier, latest, terms}
-use Rattle.desk_model.specs.Tables.{authorization_row, challenge_row, tables_at}
-use Rattle.desk_model.specs.declared.{entry.Dated.Dated, entry.Entry.Entry, entry.Wanted.Wanted, objects.Account.Account, objects.Answer.Answer}
-use Rattle.desk_model.specs.declared.{objects.Authorization.Authorization, objects.Challenge.Challenge, rows.ChallengeRow.ChallengeRow}
-use Rattle.desk_model.specs.declared.entry.Entry.TheVariants.{KeyChanged as key_changed, Ordered as ordered}
-use Rattle.desk_model.specs.declared.entry.Wanted.TheVariants.{New, Reused}
+use Rattle.desk_model.specs.{Account.account_key, Effect.fresh_challenge, Entry.History, Keys.thumbprint, Kept.EachOf, Legal.EachFollows, History.earlier}
+use Rattle.desk_model.specs.{History.terms, Tables.authorization_row, Tables.challenge_row, Tables.tables_at, declared.objects.Answer.Answer}
+use Rattle.desk_model.specs.{declared.objects.Authorization.Authorization, declared.objects.Challenge.Challenge, declared.rows.ChallengeRow.ChallengeRow}
+use Rattle.desk_model.specs.declared.entry.{Dated.Dated, Entry.Entry, Wanted.Wanted, Wanted.TheVariants.New, Wanted.TheVariants.Reused}
 use Rattle.model_laws.specs.FirstLaws.{AreUnderKeysNow, IsNoKeyChange, IsUnder, KeepsKeys}
-use Rattle.model_laws.proofs.Basics.{each, each_both, each-append, each-map, none_earlier}
-use Rattle.model_laws.proofs.{Fresh.challenges_fresh, RowFacts.key_row}
-use Rattle.model_laws.proofs.Numbers.{challenges_numbered, made_now}
-use Rattle.model_laws.proofs.References.{HasAccount, authorizations_have_accounts}
+use Rattle.model_laws.proofs.{Basics.each, Basics.each_both, Basics.each-append, Basics.each-map, Fresh.challenges_fresh, RowFacts.key_row}
+use Rattle.model_laws.proofs.{Numbers.challenges_numbered, Numbers.made_now, References.HasAccount, References.authorizations_have_accounts}
 
 -- ---- the key of an account stays
 
 -- what is found in a list is what is found in a longer one
 found_first : {X : Type 0} (p : X → Bool) (xs ys : List X) → IsSome (find p xs) → find p (xs ++ ys) ≡ find p xs
 found_first p [] ys h = cc
-found_first p (x ∷ xs) ys h = by (p x) h (found_first p xs ys)
-  where
-    by : (b : Bool) → IsSome (cond b (Some x) (find p xs)) → (IsSome (find p xs) → find p (xs ++ ys) ≡ find p xs)
-        → cond b (Some x) (find p (xs ++ ys)) ≡ cond b (Some x) (find p xs)
-    by true k ih = refl
-    by false k ih = ih k
-
--- the entry gives the account no key
-no_rekeying : (n : ℕ) (entry : Entry) → IsNoKeyChange entry → rekeying n entry ≡ None
-no_rekeying n (key_changed k key) h = absurd h
-no_rekeying n _ h = refl
-
--- an account that is there has the key that it had
-key_stays : (e : Dated) (F : History) (n : ℕ) → IsNoKeyChange e.entry → HasAccount F n → account_key n (e ∷ F) ≡ account_key n F
-key_stays e F n none has =
-    ap (λ o. key_if o (e ∷ F)) (found_first (λ a. a.number == n) (accounts F) (opened_by e.entry e.date (length (accounts F) + 1)) has)
-    ∙ by (account_by_number n F)
-  where
-    by : (o : Option Account) → key_if o (e ∷ F) ≡ key_if o F
-    by None = refl
-    by (Some a) =
-        ap (λ r. unwrap_or (earlier r (latest (λ d. rekeying a.number d.entry) F)) a.key) (no_rekeying a.number e.entry none)
-        ∙ ap (λ o. unwrap_or o a.key) (none_earlier (latest (λ d. rekeying a.number d.entry) F))
+found_first p (x ∷ xs) ys h = grind (arith, (found_first p xs ys))
 
 -- ---- answers
 
@@ -51,22 +23,13 @@ key_stays e F n none has =
 abbrev IsUnderKey : List ℕ → Option Answer → Type 0
 IsUnderKey key o = IfSome o (λ a. a.thumb ≡ thumbprint key)
 
--- so is a first one that is given under it
-first_under : (key : List ℕ) (before : Option Answer) (now : Option ℕ) → IsUnderKey key before → IsUnderKey key (earlier before (answer_by key now))
-first_under key before None h = h
-first_under key None (Some date) h = refl
-first_under key (Some a) (Some date) h = h
-
 -- each answer to a challenge of the authorization is under the key of its account
 abbrev AreUnder : History → Authorization → Type 0
 AreUnder F a = EachOf (λ c. IsUnderKey (account_key a.account F) (answer a.account c.number F)) a.challenges
 
 -- they stay so
 under_still : (e : Dated) (F : History) (a : Authorization) → IsNoKeyChange e.entry → HasAccount F a.account → AreUnder F a → AreUnder (e ∷ F) a
-under_still e F a none has under =
-    subst (λ key. EachOf (λ c. IsUnderKey key (answer a.account c.number (e ∷ F))) a.challenges) (sym (key_stays e F a.account none has))
-    (each _ _ a.challenges
-    (λ c h. first_under (account_key a.account F) (answer a.account c.number F) (answering c.number e.entry e.date) h) under)
+under_still e F a none has under = grind (arith, found_first, each)
 
 -- a new challenge has no answer
 new_unanswered : (F : History) (account n : ℕ) (cs : List Challenge) → EachOf (λ c. challenge_row F account c ≡ fresh_challenge c) cs
@@ -97,10 +60,7 @@ all_under (e ∷ F) h keeps =
         → EachOf (λ a. EachOf (λ c. IsUnderKey (account_key a.account (e ∷ F))
         (earlier (answer a.account c.number F) (answer_by (account_key a.account F) (answering c.number entry e.date)))) a.challenges)
         (made_by entry e.date (terms F).authz_life (length (authorizations F) + 1) (count_challenges (authorizations F) + 1))
-    more (ordered k ws) =
-        each _ _ _ (λ a none. each _ _ a.challenges (λ c o. subst (IsUnderKey (account_key a.account (e ∷ F))) (sym o) tt) none)
-        (made_unanswered F k e.date _ ws _ _ h.1 (omega arith))
-    more _ = tt
+    more k = grind (arith, each, made_unanswered)
 
 -- and in its tables
 pub rows_under : (F : History) → EachFollows F → KeepsKeys F → (t : ℕ) → AreUnderKeysNow (tables_at F t)

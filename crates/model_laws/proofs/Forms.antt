@@ -1,29 +1,19 @@
 -- What is drawn has 16 bytes, and what the signing office hands in is a problem.
-use Rattle.std.proofs.Common.{◌≡◌, ℕ, ◌+◌, List, [], ◌∷◌, length, Some, None, true, false, Bool, cond}
-use Rattle.std.specs.Prelude.{◌==◌, IfSome}
-use Rattle.std.specs.List.{list_all}
+use Rattle.std.proofs.Common.{◌≡◌, ℕ, ◌+◌, List, [], ◌∷◌, length, true, arith}
 use Rattle.std.proofs.lemmas.Bool.{eqb-true, and_parts}
-use Rattle.desk_model.specs.Authorization.{authorizations, challenges_from, count_challenges, kinds_of, made_by, made_for}
-use Rattle.desk_model.specs.{BaseName.is_base_name, Entry.History, History.terms, Kept.EachOf}
-use Rattle.desk_model.specs.Legal.{EachFollows, Follows, is_problem, is_wanted, may_follow}
-use Rattle.desk_model.specs.Nonce.{issued_by, nonces}
-use Rattle.desk_model.specs.Order.{failing, failure}
-use Rattle.desk_model.specs.declared.{entry.Dated.Dated, entry.Entry.Entry, entry.Wanted.Wanted, objects.Authorization.Authorization, status.Kind.Kind}
-use Rattle.desk_model.specs.declared.{rows.DatedProblem.DatedProblem}
-use Rattle.desk_model.specs.declared.entry.Entry.TheVariants.{Issued as issued, Ordered as ordered, Failed as failed}
-use Rattle.desk_model.specs.declared.entry.Wanted.TheVariants.{New, Reused}
-use Rattle.model_laws.proofs.{Basics.each-append, StatedFacts.first_holds, NewOrders.may_be_ordered, Numbers.made_now}
+use Rattle.std.specs.{Prelude.◌==◌, Prelude.IfSome, List.list_all}
+use Rattle.desk_model.specs.{Authorization.authorizations, Authorization.challenges_from, Authorization.kinds_of, Authorization.made_for, BaseName.is_base_name}
+use Rattle.desk_model.specs.{Entry.History, Kept.EachOf, Legal.EachFollows, Legal.Follows, Legal.is_problem, Legal.is_wanted, Nonce.nonces, Order.failure}
+use Rattle.desk_model.specs.{declared.entry.Dated.Dated, declared.entry.Wanted.Wanted, declared.objects.Authorization.Authorization, declared.status.Kind.Kind}
+use Rattle.desk_model.specs.{declared.entry.Wanted.TheVariants.New, declared.entry.Wanted.TheVariants.Reused}
+use Rattle.model_laws.proofs.{Basics.each-append, StatedFacts.first_holds}
 
 -- ---- random bytes
 
 -- each nonce has 16 random bytes
 pub nonces_drawn : (F : History) → EachFollows F → EachOf (λ n. length n.random ≡ 16) (nonces F)
 nonces_drawn [] h = tt
-nonces_drawn (e ∷ F) h = each-append _ (nonces F) _ (nonces_drawn F h.1) (one e.entry h.0.allowed)
-  where
-    one : (entry : Entry) → may_follow F entry e.date ≡ true → EachOf (λ n. length n.random ≡ 16) (issued_by entry e.date (length (nonces F) + 1))
-    one (issued r) may = (eqb-true (length r) 16 may, tt)
-    one _ may = tt
+nonces_drawn (e ∷ F) h = grind (arith, each-append, (nonces_drawn F h.1))
 
 -- each challenge of the authorization has a token of 16 bytes
 abbrev pub HasTokens : Authorization → Type 0
@@ -52,13 +42,7 @@ made_for_drawn account date expires (Reused name k ∷ ws) n c h = made_for_draw
 -- each token has 16 bytes
 pub tokens_drawn : (F : History) → EachFollows F → EachOf HasTokens (authorizations F)
 tokens_drawn [] h = tt
-tokens_drawn (e ∷ F) h = each-append _ (authorizations F) (made_now e F) (tokens_drawn F h.1) (more e.entry h.0.allowed)
-  where
-    more : (entry : Entry) → may_follow F entry e.date ≡ true →
-        EachOf HasTokens
-        (made_by entry e.date (terms F).authz_life (length (authorizations F) + 1) (count_challenges (authorizations F) + 1))
-    more (ordered k ws) may = made_for_drawn k e.date _ ws _ _ (may_be_ordered F e.date k ws may).wanted
-    more _ may = tt
+tokens_drawn (e ∷ F) h = grind (arith, each-append, made_for_drawn, (tokens_drawn F h.1))
 
 -- ---- problems
 
@@ -69,13 +53,4 @@ each_follows P f (e ∷ F) h = (f e F h.0, each_follows P f F h.1)
 
 -- an order that failed did so by a problem that the signing office may hand in
 pub problem_formed : (n : ℕ) (F : History) → EachFollows F → IfSome (failure n F) (λ f. is_problem f.problem ≡ true)
-problem_formed n F h =
-    first_holds _ (λ e. failing n e.entry e.date) F (each_follows _ (λ e before k. by e.entry e.date before k.allowed) F h)
-  where
-    stated : (b : Bool) (x : DatedProblem) → is_problem x.problem ≡ true → IfSome (cond b (Some x) None) (λ f. is_problem f.problem ≡ true)
-    stated true x k = k
-    stated false x k = tt
-
-    by : (entry : Entry) (date : ℕ) (before : History) → may_follow before entry date ≡ true → IfSome (failing n entry date) (λ f. is_problem f.problem ≡ true)
-    by (failed k problem) date before may = stated (k == n) _ (and_parts _ (is_problem problem) may).1
-    by _ date before may = tt
+problem_formed n F h = grind (arith, first_holds, each_follows)

@@ -1,42 +1,29 @@
 -- What is made new has no facts yet: an entry names only what was made before it.
 use Rattle.std.proofs.Common.{◌≡◌, ◌≤◌, ◌<◌, ℕ, ◌+◌, List, [], ◌∷◌, length, map, Option, Some, None, refl, ap, ◌∙◌, subst, true, false, Bool, cond, arith}
-use Rattle.std.specs.Prelude.{◌==◌, ◌||◌, find, is_some, unwrap_or}
-use Rattle.std.specs.List.{list_any}
-use Rattle.std.proofs.lemmas.Bool.{eqb-true, and_parts}
-use Rattle.desk_model.specs.{Entry.History, Lookup.holds, Nonce.spending, Legal.EachFollows, Kept.EachOf}
-use Rattle.desk_model.specs.History.{terms, first, latest, earlier}
-use Rattle.desk_model.specs.Account.{accounts, opened_by, account_by_number, account_end, account_key, account_status, changing, rekeying, ends as account_ends}
+use Rattle.std.proofs.lemmas.Bool.{eqb-true}
+use Rattle.std.specs.{Prelude.◌==◌, Prelude.◌||◌, Prelude.find, Prelude.is_some, List.list_any}
+use Rattle.desk_model.specs.Account.{accounts, opened_by, account_by_number, account_end, account_key, account_status, rekeying, ends as account_ends}
 use Rattle.desk_model.specs.Account.{status_of as account_status_of, is_valid as is_valid_account}
 use Rattle.desk_model.specs.Authorization.{authorizations, has_challenge, made_for, kinds_of, challenges_from, count_challenges, authorization_end, ends}
-use Rattle.desk_model.specs.Authorization.{in_time, is_good, kind_of, answering, reporting, answer, answer_by, when_answered, report, challenge_status_by}
-use Rattle.desk_model.specs.Order.{orders, ordered_by, listed_by}
+use Rattle.desk_model.specs.Authorization.{in_time, answering, reporting, answer, answer_by, when_answered, report, challenge_status_by}
 use Rattle.desk_model.specs.Tables.{account_row, challenge_row, authorization_row, order_row, row_of_challenge}
-use Rattle.desk_model.specs.Derived.{restated_authorization, restated_order}
 use Rattle.desk_model.specs.Effect.{names_order, fresh_account, fresh_challenge, fresh_authorization, fresh_order}
-use Rattle.desk_model.specs.declared.status.EndKind.TheVariants as kind
-use Rattle.desk_model.specs.declared.status.AccountStatus.TheVariants as account
-use Rattle.desk_model.specs.declared.{entry.Dated.Dated, entry.Ending.Ending, entry.Entry.Entry, entry.Wanted.Wanted, objects.Account.Account}
-use Rattle.desk_model.specs.declared.{objects.AccountEnd.AccountEnd, objects.Authorization.Authorization, objects.AuthorizationEnd.AuthorizationEnd}
-use Rattle.desk_model.specs.declared.{objects.Challenge.Challenge, objects.Order.Order, rows.AuthorizationRow.AuthorizationRow}
-use Rattle.desk_model.specs.declared.entry.Ending.TheVariants.{Deactivated as deactivated, Revoked as revoked}
-use Rattle.desk_model.specs.declared.entry.Entry.TheVariants.{Spent as spent, Opened as opened, ContactsChanged as contacts_changed, KeyChanged as key_changed}
-use Rattle.desk_model.specs.declared.entry.Entry.TheVariants.{AccountEnded as account_ended, Ordered as ordered, Answered as answered, Reported as reported}
-use Rattle.desk_model.specs.declared.entry.Entry.TheVariants.{AuthorizationEnded as authorization_ended, Finalized as finalized, Certified as certified}
-use Rattle.desk_model.specs.declared.entry.Entry.TheVariants.{Failed as failed}
-use Rattle.desk_model.specs.declared.entry.Wanted.TheVariants.{New, Reused}
+use Rattle.desk_model.specs.{Entry.History, Lookup.holds, Legal.EachFollows, Kept.EachOf, History.terms, History.first, History.earlier, Order.orders}
+use Rattle.desk_model.specs.{Order.ordered_by, Order.listed_by, Derived.restated_authorization, Derived.restated_order, declared.entry.Dated.Dated}
+use Rattle.desk_model.specs.{declared.entry.Entry.Entry, declared.entry.Wanted.Wanted, declared.objects.Account.Account, declared.objects.AccountEnd.AccountEnd}
+use Rattle.desk_model.specs.{declared.objects.Authorization.Authorization, declared.objects.Challenge.Challenge, declared.objects.Order.Order}
+use Rattle.desk_model.specs.{declared.rows.AuthorizationRow.AuthorizationRow, declared.entry.Entry.TheVariants.Ordered as ordered}
+use Rattle.desk_model.specs.{declared.entry.Wanted.TheVariants.New, declared.entry.Wanted.TheVariants.Reused}
 use Rattle.model_laws.proofs.Basics.{less_differs, each, each_both, map-each, IsNumbered}
 use Rattle.model_laws.proofs.{OrderDates.order_unnoted, RowFacts.authorization_stated, OrderFacts.order_stated}
-use Rattle.model_laws.specs.Given.{Counts, counts, NamesGiven}
 use Rattle.model_laws.proofs.Numbers.{no_first, no_latest, first_no, made_now, challenges_numbered, all_named}
+use Rattle.model_laws.specs.Given.{Counts, counts, NamesGiven}
 
 -- ---- new rows
 
 -- no entry names an order of a number that was not given
 new_order_unnamed : (c : Counts) (n : ℕ) → c.orders < n → (e : Entry) → NamesGiven c e → names_order e n ≡ false
-new_order_unnamed c n new (finalized k bytes) h = less_differs k n (omega arith)
-new_order_unnamed c n new (certified k bytes) h = less_differs k n (omega arith)
-new_order_unnamed c n new (failed k f) h = less_differs k n (omega arith)
-new_order_unnamed c n new _ h = refl
+new_order_unnamed c n h e k = grind arith
 
 -- an order that no entry names is as it was made
 order_unnamed : (F : History) (t m : ℕ) (rows : List AuthorizationRow) (o : Order) → EachOf (λ d. names_order d.entry o.number ≡ false) F →
@@ -46,33 +33,15 @@ order_unnamed (e ∷ F) t m rows o h = ap (restated_order m rows) (order_unnoted
 
 -- a challenge of a number that was not given has no answer
 new_challenge_answer : (c : Counts) (n : ℕ) → c.challenges < n → (e : Entry) (m : ℕ) → NamesGiven c e → answering n e m ≡ None
-new_challenge_answer c n new (answered k) m h = rw (less_differs k n (omega arith)) refl
-new_challenge_answer c n new _ m h = refl
+new_challenge_answer c n h e m k = grind arith
 
 -- and no report
 new_challenge_report : (c : Counts) (n : ℕ) → c.challenges < n → (e : Entry) (m : ℕ) → NamesGiven c e → reporting n e m ≡ None
-new_challenge_report c n new (reported k o) m h = rw (less_differs k n (omega arith)) refl
-new_challenge_report c n new _ m h = refl
-
--- an account of a number that was not given has no end
-new_account_end : (c : Counts) (n : ℕ) → c.accounts < n → (e : Entry) (m : ℕ) → NamesGiven c e → account_ends n e m ≡ None
-new_account_end c n new (account_ended k s) m h = rw (less_differs k n (omega arith)) refl
-new_account_end c n new _ m h = refl
-
--- and no new contacts
-new_account_contacts : (c : Counts) (n : ℕ) → c.accounts < n → (e : Entry) → NamesGiven c e → changing n e ≡ None
-new_account_contacts c n new (contacts_changed k cs) h = rw (less_differs k n (omega arith)) refl
-new_account_contacts c n new _ h = refl
+new_challenge_report c n h e m k = grind arith
 
 -- and no other key
 pub new_account_key : (c : Counts) (n : ℕ) → c.accounts < n → (e : Entry) → NamesGiven c e → rekeying n e ≡ None
-new_account_key c n new (key_changed k key) h = rw (less_differs k n (omega arith)) refl
-new_account_key c n new _ h = refl
-
--- a nonce of a serial that was not given is not spent
-pub new_nonce_spent : (c : Counts) (n : ℕ) → c.nonces < n → (e : Entry) (m : ℕ) → NamesGiven c e → spending n e m ≡ None
-new_nonce_spent c n new (spent k) m h = rw (less_differs k n (omega arith)) refl
-new_nonce_spent c n new _ m h = refl
+new_account_key c n h e k = grind arith
 
 -- a new order
 pub orders_fresh : (F : History) (e : Entry) (m : ℕ) → EachFollows (record { date = m; entry = e } ∷ F) →
@@ -92,27 +61,7 @@ orders_fresh F _ m h = tt
 -- a new account
 pub accounts_fresh : (F : History) (e : Entry) (m : ℕ) → EachFollows (record { date = m; entry = e } ∷ F) →
     EachOf (λ a. account_row (record { date = m; entry = e } ∷ F) a ≡ fresh_account a) (opened_by e m (length (accounts F) + 1))
-accounts_fresh F (opened k cs) m h =
-    let n : ℕ = length (accounts F) + 1 in
-    let new : length (accounts F) < n = omega arith in
-    let named = all_named F h.1 in
-    let ended_none : first (λ d. account_ends n d.entry d.date) F ≡ None =
-    no_first (λ d. account_ends n d.entry d.date) F (each _ _ F (λ d. new_account_end (counts F) n new d.entry d.date) named) in
-    let changed_none : latest (λ d. changing n d.entry) F ≡ None =
-    no_latest (λ d. changing n d.entry) F (each _ _ F (λ d. new_account_contacts (counts F) n new d.entry) named) in
-    let rekeyed_none : latest (λ d. rekeying n d.entry) F ≡ None =
-    no_latest (λ d. rekeying n d.entry) F (each _ _ F (λ d. new_account_key (counts F) n new d.entry) named) in (
-      (λ i. record {
-        number = n;
-        key = unwrap_or (earlier None (rekeyed_none i)) k;
-        contacts = unwrap_or (earlier None (changed_none i)) cs;
-        opened = m;
-        ended = ended_none i;
-        status = account_status_of (ended_none i);
-      }),
-      tt,
-    )
-accounts_fresh F _ m h = tt
+accounts_fresh F e m h = grind (arith, all_named, no_first, each, no_latest)
 
 -- ---- new authorizations
 
@@ -123,34 +72,10 @@ from_numbered n k (c ∷ cs) lt h =
     let start : c.number ≡ n = h.0 in
     ap (λ b. b || list_any (λ d. k == d.number) cs) (less_differs k c.number (omega arith)) ∙ from_numbered (n + 1) k cs (omega arith) h.1
 
--- an entry that ends another account
-not_ended : (k n : ℕ) (s : Ending) (date : ℕ) → account_ends n (account_ended k s) date ≡ None → (k == n) ≡ false
-not_ended k n s date h = by (k == n) h
-  where
-    by : (b : Bool) → cond {A = Option AccountEnd} b (Some (record { date = date; ending = s })) None ≡ None → b ≡ false
-    by true h = cc
-    by false h = refl
-
 -- no entry ends an authorization that is not made yet, if its account has not ended
 no_end : (c : Counts) (a : Authorization) → c.authorizations < a.number → ((k : ℕ) → k ≤ c.challenges → has_challenge k a ≡ false) →
     (d : Dated) → NamesGiven c d.entry → account_ends a.account d.entry d.date ≡ None → ends a d.entry d.date ≡ None
-no_end c a new free d named alive = by d.entry named alive
-  where
-    by : (e : Entry) → NamesGiven c e → account_ends a.account e d.date ≡ None → ends a e d.date ≡ None
-    by (reported k o) h l =
-        ap (λ b. cond {A = Option AuthorizationEnd} (is_good o) None
-        (cond {A = Option AuthorizationEnd} b (Some (record { date = d.date; kind = kind.Invalid })) None)) (free k h)
-        ∙ either (is_good o)
-      where
-        either : (b : Bool) → cond {A = Option AuthorizationEnd} b None None ≡ None
-        either true = refl
-        either false = refl
-    by (authorization_ended k s) h l =
-        ap (λ b. cond {A = Option AuthorizationEnd} b (Some (record { date = d.date; kind = kind_of s })) None)
-        (less_differs k a.number (omega arith))
-    by (account_ended k s) h l =
-        ap (λ b. cond {A = Option AuthorizationEnd} b (Some (record { date = d.date; kind = kind_of s })) None) (not_ended k a.account s d.date l)
-    by _ h l = refl
+no_end c a new free d named alive = grind arith
 
 -- where no entry answers a challenge it has no answer
 unanswered : (account n : ℕ) (F : History) → EachOf (λ d. answering n d.entry d.date ≡ None) F → answer account n F ≡ None
@@ -209,12 +134,7 @@ account_alive : (F : History) (n : ℕ) → holds (λ a. is_valid_account (accou
 account_alive F n h = by (accounts F) h
   where
     unended : (o : Option AccountEnd) → is_valid_account (account_status_of o) ≡ true → o ≡ None
-    unended None h = refl
-    unended (Some x) h = ending x.ending h
-      where
-        ending : (s : Ending) → is_valid_account (elim s [ deactivated ↦ account.Deactivated | revoked ↦ account.Revoked ]) ≡ true → Some x ≡ None
-        ending deactivated h = cc
-        ending revoked h = cc
+    unended o l = grind arith
 
     by : (xs : List Account) → holds (λ a. is_valid_account (account_status a F)) (find (λ a. a.number == n) xs) ≡ true →
         first (λ d. account_ends n d.entry d.date) F ≡ None
@@ -232,8 +152,5 @@ account_alive F n h = by (accounts F) h
 pub authorizations_fresh : (F : History) (e : Entry) (m : ℕ) → EachFollows (record { date = m; entry = e } ∷ F) →
     EachOf (λ a. authorization_row (record { date = m; entry = e } ∷ F) m a ≡ restated_authorization m (fresh_authorization a))
     (made_now (record { date = m; entry = e }) F)
-authorizations_fresh F (ordered k ws) m h =
-    made_fresh F k m ws (m + (terms F).authz_life) ws (length (authorizations F) + 1) (count_challenges (authorizations F) + 1) h
-    (account_alive F k (and_parts (holds (λ a. is_valid_account (account_status a F)) (account_by_number k F)) _ h.0.allowed).0) (omega arith)
-    (omega arith)
+authorizations_fresh F (ordered k ws) m h = grind (arith, made_fresh, account_alive)
 authorizations_fresh F _ m h = tt

@@ -1,27 +1,21 @@
 -- What is so of the changes of a sweep and of each entry is so of all that a call records, change after change.
 use Rattle.std.proofs.Common.{◌≡◌, ◌≤◌, ◌<◌, ℕ, ◌+◌, List, [], ◌∷◌, ◌++◌, map, Bool, refl, sym, ap, subst, ◌∙◌, append-nil, arith}
 use Rattle.std.specs.Prelude.{◌&&◌}
-use Rattle.desk_model.specs.{Entry.History, Legal.EachFollows, Kept.EachOf}
-use Rattle.desk_model.specs.declared.{entry.Entry.Entry, objects.Nonce.Nonce, rows.AccountRow.AccountRow, rows.AuthorizationRow.AuthorizationRow}
-use Rattle.desk_model.specs.declared.{rows.Change.Change, rows.Meta.Meta, rows.OrderRow.OrderRow}
-use Rattle.desk_model.specs.History.{clock, record_all}
-use Rattle.desk_model.specs.Tables.{Tables, tables_at, picture}
-use Rattle.desk_model.specs.Derived.{restated_authorization, restated_order}
 use Rattle.desk_model.specs.Effect.{authorizations_after, effect, effects, falls, is_overdue, noted_account, noted_authorization, noted_order, swept}
 use Rattle.desk_model.specs.Effect.{touches_account, touches_authorization, touches_order}
 use Rattle.desk_model.specs.Change.{account_differs, accounts_put, all_changes, applied, applied_one, authorization_differs, authorizations_expired}
 use Rattle.desk_model.specs.Change.{authorizations_put, changes, moved_rows, nonces_gone, nonces_put, order_differs, orders_fallen, orders_put}
 use Rattle.desk_model.specs.Change.{recorded_changes, spent_by, sweep_changes}
+use Rattle.desk_model.specs.{Entry.History, Legal.EachFollows, Kept.EachOf, declared.entry.Entry.Entry, declared.objects.Nonce.Nonce, History.clock}
+use Rattle.desk_model.specs.{History.record_all, Tables.Tables, Tables.tables_at, Tables.picture, Derived.restated_authorization, Derived.restated_order}
 use Rattle.desk_model.specs.declared.rows.Change.TheVariants.{PutMeta, RemoveNonce, PutNonce, PutAccount, PutAuthorization, PutOrder}
+use Rattle.desk_model.specs.declared.rows.{AccountRow.AccountRow, AuthorizationRow.AuthorizationRow, Change.Change, Meta.Meta, OrderRow.OrderRow}
 use Rattle.desk_model.specs.declared.status.AuthzStatus.TheVariants as authz
 use Rattle.desk_model.specs.declared.status.OrderStatus.TheVariants as order
-use Rattle.model_laws.specs.News.{InTurn}
-use Rattle.model_laws.specs.Placing.{puts, removes}
-use Rattle.model_laws.specs.Ordered.{Ascends, Below, IsOrdered, IsTable}
-use Rattle.model_laws.proofs.Basics.{each, each_both}
+use Rattle.model_laws.specs.{News.InTurn, Placing.puts, Placing.removes, Ordered.Ascends, Ordered.Below, Ordered.IsOrdered, Ordered.IsTable}
 use Rattle.model_laws.proofs.Recorded.{below_filter, below_map, changes_make, issued_up, made_up, opened_up, ordered_up, sweep_makes, tables_ordered}
 use Rattle.model_laws.proofs.RowLists.{ascends_above, ascends_filter, ascends_from, ascends_map}
-use Rattle.model_laws.proofs.Step.{follows_before, step, sweep}
+use Rattle.model_laws.proofs.{Basics.each, Basics.each_both, Step.follows_before, Step.step, Step.sweep}
 
 -- rows that ascend below others that do
 ascends-append : {X : Type 0} (number : X → ℕ) (n k : ℕ) (xs ys : List X) → n ≤ k → Ascends number n xs → Below number k xs → Ascends number k ys →

@@ -1,19 +1,14 @@
 -- Change after change, what is put has the children of what stands there by then.
-use Rattle.std.proofs.Common.{◌≡◌, ◌≤◌, ℕ, List, [], ◌∷◌, map, sym, subst}
+use Rattle.std.proofs.Common.{◌≡◌, ◌≤◌, ℕ, List, ◌∷◌, map, sym, subst, rules}
 use Rattle.std.specs.Prelude.{IfSome}
-use Rattle.desk_model.specs.{Entry.History, Legal.EachFollows, Kept.EachOf}
-use Rattle.desk_model.specs.declared.entry.Entry.{Entry}
-use Rattle.desk_model.specs.History.{clock, record_all}
-use Rattle.desk_model.specs.Tables.{Tables, picture}
 use Rattle.desk_model.specs.Change.{spent_by, nonces_put, accounts_put, authorizations_put, orders_put, nonces_gone, authorizations_expired, orders_fallen}
 use Rattle.desk_model.specs.Change.{recorded_changes}
 use Rattle.desk_model.specs.declared.rows.Change.TheVariants.{PutNonce, RemoveNonce, PutAccount, PutAuthorization, PutOrder}
-use Rattle.model_laws.specs.News.{AreKept, KeepChallenges, KeepsChildren}
-use Rattle.model_laws.specs.Ordered.{IsOrdered}
-use Rattle.model_laws.proofs.Basics.{each_all, each_of_map, each_parts}
-use Rattle.model_laws.proofs.InTurn.{Stays, entries_in_turn, records_in_turn, sweeps_in_turn}
-use Rattle.model_laws.proofs.NewsInOrder.{find_put}
-use Rattle.model_laws.proofs.PutsDiffer.{puts_keep_children, swept_puts_keep_children}
+use Rattle.desk_model.specs.{Entry.History, Legal.EachFollows, Kept.EachOf, declared.entry.Entry.Entry, History.clock, History.record_all, Tables.Tables}
+use Rattle.desk_model.specs.{Tables.picture}
+use Rattle.model_laws.specs.{News.AreKept, News.KeepChallenges, News.KeepsChildren, Ordered.IsOrdered}
+use Rattle.model_laws.proofs.{Basics.each_all, Basics.each_of_map, Basics.each_parts, InTurn.Stays, InTurn.entries_in_turn, InTurn.records_in_turn}
+use Rattle.model_laws.proofs.{InTurn.sweeps_in_turn, NewsInOrder.find_put, PutsDiffer.puts_keep_children, PutsDiffer.swept_puts_keep_children}
 
 -- what is put still has the children of what stands there when a row below it was put
 kept_stay : Stays KeepsChildren
@@ -30,10 +25,8 @@ sweep_kept : (T : Tables) (m : ℕ) → IsOrdered T → EachOf (λ x. KeepsChild
     × EachOf (λ x. KeepsChildren T (PutOrder x)) (orders_fallen m T)
 sweep_kept T m h =
     let rest = (each_parts (KeepsChildren T) (map RemoveNonce (nonces_gone m T)) _ (swept_puts_keep_children T m h)).1 in
-    let parts = each_parts (KeepsChildren T) (map PutAuthorization (authorizations_expired m T)) _ rest in (
-      each_of_map (KeepsChildren T) PutAuthorization (authorizations_expired m T) parts.0,
-      each_of_map (KeepsChildren T) PutOrder (orders_fallen m T) parts.1,
-    )
+    let parts = each_parts (KeepsChildren T) (map PutAuthorization (authorizations_expired m T)) _ rest in
+    search (rules, each_of_map)
 
 -- and of those of an entry
 entry_kept : (T : Tables) (m : ℕ) (e : Entry) → IsOrdered T → EachOf (λ x. KeepsChildren T (PutAuthorization x)) (authorizations_put T e m)

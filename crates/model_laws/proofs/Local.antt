@@ -1,26 +1,22 @@
 -- A part that holds what is touched records the same changes as the whole.
-use Rattle.std.proofs.Common.{◌≡◌, ℕ, ◌+◌, List, [], ◌∷◌, ◌++◌, map, filter, Some, refl, sym, ap, ◌∙◌, true, false, Bool, cond, not}
-use Rattle.std.specs.Prelude.{nat_lt, ◌==◌, ◌&&◌, ◌||◌, find}
-use Rattle.std.specs.Option.{option_or}
-use Rattle.std.proofs.lemmas.Bool.{eqb-true, and_parts}
-use Rattle.std.proofs.lemmas.List.Folds.{find-append}
+use Rattle.std.proofs.Common.{◌≡◌, ℕ, ◌+◌, List, [], ◌∷◌, ◌++◌, map, filter, refl, sym, ap, ◌∙◌, true, false, Bool, cond, not, arith, rules}
+use Rattle.std.proofs.{lemmas.Bool.and_parts, lemmas.List.Folds.find-append}
+use Rattle.std.specs.{Prelude.◌==◌, Prelude.◌&&◌, Prelude.◌||◌, Prelude.find, Option.option_or}
 use Rattle.desk_model.specs.{Lookup.holds, History.earlier, Account.opened_by, Authorization.in_time, Order.ordered_by, Tables.Tables}
 use Rattle.desk_model.specs.Derived.{numbers_of, authorization_numbered, stored_statuses, and_status, restated_authorization, restated_order}
 use Rattle.desk_model.specs.Effect.{noted_account, noted_authorization, noted_order, touches_account, touches_authorization, key_in, key_numbered}
-use Rattle.desk_model.specs.Effect.{noted_challenge, row_ends, touches_order, names_order, lists_one, moved_authorization, fresh_account, fresh_authorization}
+use Rattle.desk_model.specs.Effect.{noted_challenge, row_ends, touches_order, lists_one, moved_authorization, fresh_account, fresh_authorization}
 use Rattle.desk_model.specs.Effect.{fresh_order, new_authorizations, authorizations_after, lasts, swept, swept_authorization, swept_order, is_overdue, falls}
-use Rattle.desk_model.specs.Effect.{is_live_order}
 use Rattle.desk_model.specs.Change.{moved_rows, account_differs, authorization_differs, order_differs, spent_by, nonces_put, accounts_put, authorizations_put}
 use Rattle.desk_model.specs.Change.{changes, sweep_changes, nonces_gone, authorizations_expired, orders_fallen}
 use Rattle.desk_model.specs.Kept.{Kept, restricted, EachOf, IsClosed, Covers, CoversSweep, HoldersKept}
-use Rattle.desk_model.specs.declared.status.AuthzStatus.TheVariants as authz
-use Rattle.desk_model.specs.declared.status.OrderStatus.TheVariants as order
 use Rattle.desk_model.specs.declared.{entry.Entry.Entry, objects.Nonce.Nonce, objects.Order.Order, rows.AccountRow.AccountRow}
 use Rattle.desk_model.specs.declared.{rows.AuthorizationRow.AuthorizationRow, rows.OrderRow.OrderRow}
 use Rattle.desk_model.specs.declared.rows.Change.TheVariants.{PutNonce, RemoveNonce, PutAccount, PutAuthorization, PutOrder}
+use Rattle.desk_model.specs.declared.status.AuthzStatus.TheVariants as authz
+use Rattle.desk_model.specs.declared.status.OrderStatus.TheVariants as order
 use Rattle.model_laws.specs.Parts.{FreshKept}
-use Rattle.model_laws.proofs.Basics.{each, each_all, one_kept}
-use Rattle.model_laws.proofs.{OrderFacts.restated_alike, RowFacts.authorization_untouched}
+use Rattle.model_laws.proofs.{Basics.each, Basics.each_all, Basics.one_kept, OrderFacts.restated_alike, RowFacts.authorization_untouched}
 
 -- ---- lists
 
@@ -29,27 +25,14 @@ picked : {X Y : Type 0} (kept p q : X → Bool) (f g : X → Y) (xs : List X) �
     EachOf (λ x. q x ≡ true → kept x ≡ true) xs →
     map f (filter p (filter kept xs)) ≡ map g (filter q xs)
 picked kept p q f g [] h k = refl
-picked kept p q f g (x ∷ xs) h k = by (kept x) refl (q x) refl (picked kept p q f g xs h.1 k.1)
-  where
-    by : (b : Bool) → kept x ≡ b → (c : Bool) → q x ≡ c → map f (filter p (filter kept xs)) ≡ map g (filter q xs) →
-        map f (filter p (cond b (x ∷ filter kept xs) (filter kept xs))) ≡ map g (cond c (x ∷ filter q xs) (filter q xs))
-    by true e true r ih = ap (λ z. map f (cond z (x ∷ filter p (filter kept xs)) (filter p (filter kept xs)))) ((h.0 e).0 ∙ r) ∙ (λ i. (h.0 e).1 i ∷ ih i)
-    by true e false r ih = ap (λ z. map f (cond z (x ∷ filter p (filter kept xs)) (filter p (filter kept xs)))) ((h.0 e).0 ∙ r) ∙ ih
-    by false e true r ih = let yes : kept x ≡ true = k.0 r in cc
-    by false e false r ih = ih
+picked kept p q f g (x ∷ xs) h k = grind (arith, (picked kept p q f g xs h.1 k.1))
 
 -- the rows of a part, moved, are the part of the moved rows
 pub moved_part : {X : Type 0} (kept : X → Bool) (f g : X → X) (xs : List X) → ((x : X) → kept (g x) ≡ kept x) →
     EachOf (λ x. kept x ≡ true → f x ≡ g x) xs →
     map f (filter kept xs) ≡ filter kept (map g xs)
 moved_part kept f g [] same h = refl
-moved_part kept f g (x ∷ xs) same h =
-    by (kept x) refl (moved_part kept f g xs same h.1) ∙ ap (λ b. cond b (g x ∷ filter kept (map g xs)) (filter kept (map g xs))) (sym (same x))
-  where
-    by : (b : Bool) → kept x ≡ b → map f (filter kept xs) ≡ filter kept (map g xs) →
-        map f (cond b (x ∷ filter kept xs) (filter kept xs)) ≡ cond b (g x ∷ filter kept (map g xs)) (filter kept (map g xs))
-    by true e ih = λ i. h.0 e i ∷ ih i
-    by false e ih = ih
+moved_part kept f g (x ∷ xs) same h = grind (arith, (moved_part kept f g xs same h.1))
 
 -- ---- look-ups
 
@@ -57,16 +40,7 @@ moved_part kept f g (x ∷ xs) same h =
 pub find_kept : {X : Type 0} (number : X → ℕ) (kept : ℕ → Bool) (n : ℕ) (xs : List X) → kept n ≡ true →
     find (λ x. number x == n) (filter (λ x. kept (number x)) xs) ≡ find (λ x. number x == n) xs
 find_kept number kept n [] h = refl
-find_kept number kept n (x ∷ xs) h = by (kept (number x)) refl (number x == n) refl (find_kept number kept n xs h)
-  where
-    by : (b : Bool) → kept (number x) ≡ b → (c : Bool) → (number x == n) ≡ c →
-        find (λ y. number y == n) (filter (λ y. kept (number y)) xs) ≡ find (λ y. number y == n) xs →
-        find (λ y. number y == n) (cond b (x ∷ filter (λ y. kept (number y)) xs) (filter (λ y. kept (number y)) xs))
-        ≡ cond c (Some x) (find (λ y. number y == n) xs)
-    by true e true r ih = ap (λ z. cond z (Some x) (find (λ y. number y == n) (filter (λ y. kept (number y)) xs))) r
-    by true e false r ih = ap (λ z. cond z (Some x) (find (λ y. number y == n) (filter (λ y. kept (number y)) xs))) r ∙ ih
-    by false e true r ih = let same : number x ≡ n = eqb-true (number x) n r in let yes : kept (number x) ≡ true = rw same h in cc
-    by false e false r ih = ih
+find_kept number kept n (x ∷ xs) h = grind (arith, (find_kept number kept n xs h))
 
 -- the authorizations of these numbers are the same in both lists
 abbrev SameFor : List AuthorizationRow → List AuthorizationRow → List ℕ → Type 0
@@ -149,35 +123,22 @@ kept_after k T e m ns holders h =
 -- an order falls by the part where it falls by the whole
 falls_same : (k : Kept) (T : Tables) (m : ℕ) (row : OrderRow) → EachOf (λ n. k.authorizations n ≡ true) (numbers_of row.listed) →
     falls m (restricted k T).authorizations row ≡ falls m T.authorizations row
-falls_same k T m row h =
-    ap (λ b. is_live_order row.status && (nat_lt row.expires m || b))
-    (lists_same (is_overdue m) _ T.authorizations (numbers_of row.listed) (kept_before k T (numbers_of row.listed) h))
+falls_same k T m row h = grind (arith, lists_same, (kept_before k T (numbers_of row.listed) h))
 
 -- the part changes as the whole by the passing of time
 pub sweep_changes_local : (k : Kept) (T : Tables) (m : ℕ) → IsClosed k T → CoversSweep k T m → sweep_changes m (restricted k T) ≡ sweep_changes m T
 sweep_changes_local k T m closed covers =
-    let gone : nonces_gone m (restricted k T) ≡ nonces_gone m T =
-    picked (λ (n : Nonce). k.nonces n.serial) (λ n. not (lasts T.meta.policy m n)) (λ n. not (lasts T.meta.policy m n)) (λ n. n.serial)
-    (λ n. n.serial) T.nonces (each_all _ T.nonces (λ n yes. (refl, refl))) covers.nonces in
-    let expired : authorizations_expired m (restricted k T) ≡ authorizations_expired m T =
-    picked (λ (a : AuthorizationRow). k.authorizations a.number) (is_overdue m) (is_overdue m)
-    (λ (r : AuthorizationRow). record r { status = authz.Expired })
-    (λ (r : AuthorizationRow). record r { status = authz.Expired }) T.authorizations
-    (each_all _ T.authorizations (λ a yes. (refl, refl))) covers.authorizations in
-    let fallen : orders_fallen m (restricted k T) ≡ orders_fallen m T =
-    picked (λ (o : OrderRow). k.orders o.number) (falls m (restricted k T).authorizations) (falls m T.authorizations)
-    (λ (r : OrderRow). record r { status = order.Invalid }) (λ (r : OrderRow). record r { status = order.Invalid }) T.orders
-    (each _ _ T.orders (λ o all yes. (falls_same k T m o (all yes), refl)) closed.listed) covers.orders in
-    λ i. map RemoveNonce (gone i) ++ (map PutAuthorization (expired i) ++ map PutOrder (fallen i))
+    let gone : nonces_gone m (restricted k T) ≡ nonces_gone m T = picked (λ (n : Nonce). k.nonces n.serial) (λ n. not (lasts T.meta.policy m n)) (λ n. not (lasts T.meta.policy m n)) (λ n. n.serial) (λ n. n.serial) T.nonces (each_all _ T.nonces (λ n yes. (refl, refl))) covers.nonces in
+    let expired : authorizations_expired m (restricted k T) ≡ authorizations_expired m T = picked (λ (a : AuthorizationRow). k.authorizations a.number) (is_overdue m) (is_overdue m) (λ (r : AuthorizationRow). record r { status = authz.Expired }) (λ (r : AuthorizationRow). record r { status = authz.Expired }) T.authorizations (each_all _ T.authorizations (λ a yes. (refl, refl))) covers.authorizations in
+    let fallen : orders_fallen m (restricted k T) ≡ orders_fallen m T = picked (λ (o : OrderRow). k.orders o.number) (falls m (restricted k T).authorizations) (falls m T.authorizations) (λ (r : OrderRow). record r { status = order.Invalid }) (λ (r : OrderRow). record r { status = order.Invalid }) T.orders (each _ _ T.orders (λ o all yes. (falls_same k T m o (all yes), refl)) closed.listed) covers.orders in
+    search rules
 
 -- ---- an entry
 
 -- an entry touches an order by the part where it does by the whole
 pub touches_same : (k : Kept) (T : Tables) (e : Entry) (row : OrderRow) → EachOf (λ n. k.authorizations n ≡ true) (numbers_of row.listed) →
     touches_order e (restricted k T).authorizations row ≡ touches_order e T.authorizations row
-touches_same k T e row h =
-    ap (λ b. names_order e row.number || b)
-    (lists_same (touches_authorization e) _ T.authorizations (numbers_of row.listed) (kept_before k T (numbers_of row.listed) h))
+touches_same k T e row h = grind (arith, lists_same, (kept_before k T (numbers_of row.listed) h))
 
 -- the part changes as the whole by an entry
 pub changes_local : (k : Kept) (T : Tables) (m : ℕ) (e : Entry) → IsClosed k T → Covers k T e → FreshKept k T m e → changes m (restricted k T) e ≡ changes m T e
@@ -235,17 +196,7 @@ filter_all p (x ∷ xs) h = ap (λ b. cond b (x ∷ filter p xs) (filter p xs)) 
 -- filters in either order
 pub filters_swap : {X : Type 0} (p q : X → Bool) (xs : List X) → filter p (filter q xs) ≡ filter q (filter p xs)
 filters_swap p q [] = refl
-filters_swap p q (x ∷ xs) = by (p x) refl (q x) refl (filters_swap p q xs)
-  where
-    by : (b : Bool) → p x ≡ b → (c : Bool) → q x ≡ c → filter p (filter q xs) ≡ filter q (filter p xs) →
-        filter p (cond c (x ∷ filter q xs) (filter q xs)) ≡ filter q (cond b (x ∷ filter p xs) (filter p xs))
-    by true e true r ih =
-        ap (λ z. cond z (x ∷ filter p (filter q xs)) (filter p (filter q xs))) e
-        ∙ ap (λ l. x ∷ l) ih
-        ∙ sym (ap (λ z. cond z (x ∷ filter q (filter p xs)) (filter q (filter p xs))) r)
-    by true e false r ih = ih ∙ sym (ap (λ z. cond z (x ∷ filter q (filter p xs)) (filter q (filter p xs))) r)
-    by false e true r ih = ap (λ z. cond z (x ∷ filter p (filter q xs)) (filter p (filter q xs))) e ∙ ih
-    by false e false r ih = ih
+filters_swap p q (x ∷ xs) = grind (arith, (filters_swap p q xs))
 
 -- a swept authorization keeps its number
 pub swept_number : (m : ℕ) (row : AuthorizationRow) → (swept_authorization m row).number ≡ row.number
@@ -259,19 +210,7 @@ swept_order_number m rows row = one_kept (λ (o : OrderRow). o.number) (falls m 
 pub swept_alike : (k : Kept) (T : Tables) (m : ℕ) →
     EachOf (λ o. k.orders o.number ≡ true → falls m (restricted k T).authorizations o ≡ falls m T.authorizations o) T.orders →
     swept m (restricted k T) ≡ restricted k (swept m T)
-swept_alike k T m alike =
-    λ i. record {
-      meta = (swept m T).meta;
-      nonces = filters_swap (lasts T.meta.policy m) (λ n. k.nonces n.serial) T.nonces i;
-      accounts = filter (λ a. k.accounts a.number) T.accounts;
-      authorizations =
-          moved_part (λ (a : AuthorizationRow). k.authorizations a.number) (swept_authorization m) (swept_authorization m) T.authorizations
-          (λ a. ap k.authorizations (swept_number m a)) (each_all _ T.authorizations (λ a yes. refl)) i;
-      orders =
-          moved_part (λ (o : OrderRow). k.orders o.number) (swept_order m (restricted k T).authorizations) (swept_order m T.authorizations) T.orders
-          (λ o. ap k.orders (swept_order_number m T.authorizations o))
-          (each _ _ T.orders (λ o same yes. ap (λ b. cond b (record o { status = order.Invalid }) o) (same yes)) alike) i;
-    }
+swept_alike k T m alike = grind (arith, filters_swap, moved_part, each_all, each)
 
 -- as in a closed one
 pub swept_part : (k : Kept) (T : Tables) (m : ℕ) → IsClosed k T → swept m (restricted k T) ≡ restricted k (swept m T)
@@ -282,24 +221,10 @@ swept_part k T m closed = swept_alike k T m (each _ _ T.orders (λ o all yes. fa
 -- the first row that passes is the same in a part that keeps the rows that pass
 pub find_part : {X : Type 0} (test kept : X → Bool) (xs : List X) → EachOf (λ x. test x ≡ true → kept x ≡ true) xs → find test (filter kept xs) ≡ find test xs
 find_part test kept [] h = refl
-find_part test kept (x ∷ xs) h = by (kept x) refl (test x) refl (find_part test kept xs h.1)
-  where
-    by : (b : Bool) → kept x ≡ b → (c : Bool) → test x ≡ c → find test (filter kept xs) ≡ find test xs →
-        find test (cond b (x ∷ filter kept xs) (filter kept xs)) ≡ cond c (Some x) (find test xs)
-    by true e true r ih = ap (λ z. cond z (Some x) (find test (filter kept xs))) r
-    by true e false r ih = ap (λ z. cond z (Some x) (find test (filter kept xs))) r ∙ ih
-    by false e true r ih = let yes : kept x ≡ true = h.0 r in cc
-    by false e false r ih = ih
+find_part test kept (x ∷ xs) h = grind (arith, (find_part test kept xs h.1))
 
 -- and so are all rows that pass
 pub filter_part : {X : Type 0} (test kept : X → Bool) (xs : List X) → EachOf (λ x. test x ≡ true → kept x ≡ true) xs →
     filter test (filter kept xs) ≡ filter test xs
 filter_part test kept [] h = refl
-filter_part test kept (x ∷ xs) h = by (kept x) refl (test x) refl (filter_part test kept xs h.1)
-  where
-    by : (b : Bool) → kept x ≡ b → (c : Bool) → test x ≡ c → filter test (filter kept xs) ≡ filter test xs →
-        filter test (cond b (x ∷ filter kept xs) (filter kept xs)) ≡ cond c (x ∷ filter test xs) (filter test xs)
-    by true e true r ih = ap (λ z. cond z (x ∷ filter test (filter kept xs)) (filter test (filter kept xs))) r ∙ ap (λ l. x ∷ l) ih
-    by true e false r ih = ap (λ z. cond z (x ∷ filter test (filter kept xs)) (filter test (filter kept xs))) r ∙ ih
-    by false e true r ih = let yes : kept x ≡ true = h.0 r in cc
-    by false e false r ih = ih
+filter_part test kept (x ∷ xs) h = grind (arith, (filter_part test kept xs h.1))

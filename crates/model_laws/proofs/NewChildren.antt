@@ -1,22 +1,16 @@
 -- The children of a row that is new stand nowhere yet: later changes keep all children, and after the last one no two are the
 -- same.
 use Rattle.std.proofs.Common.{◌≡◌, ◌≢◌, ◌≤◌, ◌⊎◌, inl, inr, ℕ, List, [], ◌∷◌, ◌++◌, map, Option, Some, None, refl, sym, ap, subst, ◌∙◌, true, false, Bool, cond}
-use Rattle.std.specs.Prelude.{IfSome, find, nat_lt, ◌==◌, ◌||◌}
-use Rattle.std.specs.List.{flat_map, list_any}
-use Rattle.std.proofs.lemmas.Bool.{ne_eqb}
-use Rattle.std.proofs.lemmas.List.{append_assoc, map-append}
-use Rattle.desk_model.specs.{Entry.History, Legal.EachFollows, Effect.has_row, Kept.EachOf, Questions.authorization_on}
-use Rattle.desk_model.specs.History.{clock, record_all}
-use Rattle.desk_model.specs.Tables.{Tables, tables_at, picture}
+use Rattle.std.proofs.Common.{arith}
+use Rattle.std.proofs.{lemmas.Bool.ne_eqb, lemmas.List.append_assoc, lemmas.List.map-append}
+use Rattle.std.specs.{Prelude.IfSome, Prelude.find, Prelude.nat_lt, Prelude.◌==◌, Prelude.◌||◌, List.flat_map, List.list_any}
 use Rattle.desk_model.specs.Change.{put, applied, applied_one, recorded_changes}
-use Rattle.desk_model.specs.declared.{entry.Entry.Entry, rows.AuthorizationRow.AuthorizationRow, rows.Change.Change, rows.ChallengeRow.ChallengeRow}
-use Rattle.desk_model.specs.declared.{rows.Change.TheVariants.PutAuthorization}
-use Rattle.model_laws.specs.Distinct.{Distinct}
-use Rattle.model_laws.specs.News.{AreKept, AreNewChildren, BringsNewChildren, KeepChallenges, KeepsChildren}
-use Rattle.model_laws.proofs.Basics.{each, each_of_map, each_parts, eq_turn}
-use Rattle.model_laws.proofs.Distinctness.{ascends_distinct, between, distinct-map, map-distinct}
-use Rattle.model_laws.proofs.KeptInOrder.{records_keep}
-use Rattle.model_laws.proofs.Recorded.{challenges_ordered, recorded}
+use Rattle.desk_model.specs.{Entry.History, Legal.EachFollows, Effect.has_row, Kept.EachOf, Questions.authorization_on, History.clock, History.record_all}
+use Rattle.desk_model.specs.{Tables.Tables, Tables.tables_at, Tables.picture, declared.entry.Entry.Entry, declared.rows.AuthorizationRow.AuthorizationRow}
+use Rattle.desk_model.specs.{declared.rows.Change.Change, declared.rows.ChallengeRow.ChallengeRow, declared.rows.Change.TheVariants.PutAuthorization}
+use Rattle.model_laws.specs.{Distinct.Distinct, News.AreKept, News.AreNewChildren, News.BringsNewChildren, News.KeepsChildren}
+use Rattle.model_laws.proofs.{Basics.each, Basics.each_of_map, Basics.each_parts, Basics.eq_turn, Distinctness.ascends_distinct, Distinctness.between}
+use Rattle.model_laws.proofs.{Distinctness.distinct-map, Distinctness.map-distinct, KeptInOrder.records_keep, Recorded.challenges_ordered, Recorded.recorded}
 
 -- ---- one table
 
@@ -107,26 +101,18 @@ no_owner n (a ∷ rows) h =
 -- the numbers, listed through all authorizations
 numbers_flat : (rows : List AuthorizationRow) → map (λ c. c.number) (flat_map (λ (a : AuthorizationRow). a.challenges) rows) ≡ flat_map challenges_in rows
 numbers_flat [] = refl
-numbers_flat (a ∷ rows) =
-    map-append (λ c. c.number) a.challenges (flat_map (λ (b : AuthorizationRow). b.challenges) rows) ∙ ap (λ l. challenges_in a ++ l) (numbers_flat rows)
+numbers_flat (a ∷ rows) = grind (arith, map-append, (numbers_flat rows))
 
 -- in the tables of a history no two challenges have the same number
 pub challenges_differ : (F : History) (t : ℕ) → ChallengesDiffer (tables_at F t)
-challenges_differ F t =
-    let all : List ChallengeRow = flat_map (λ (a : AuthorizationRow). a.challenges) (tables_at F t).authorizations in
-    subst (Distinct (λ n. n)) (numbers_flat (tables_at F t).authorizations)
-    (distinct-map (λ n. n) (λ c. c.number) all (ascends_distinct (λ c. c.number) 1 all (challenges_ordered F t)))
+challenges_differ F t = grind (arith, distinct-map, ascends_distinct, (numbers_flat (tables_at F t).authorizations), (challenges_ordered F t))
 
 -- ---- changes
 
 -- an authorization that keeps its challenges keeps their numbers
 pub numbers_kept : (T : Tables) (x : AuthorizationRow) → KeepsChildren T (PutAuthorization x)
     → IfSome (find (λ a. a.number == x.number) T.authorizations) (λ a. challenges_in a ≡ challenges_in x)
-numbers_kept T x kept = by (find (λ a. a.number == x.number) T.authorizations) kept
-  where
-    by : (o : Option AuthorizationRow) → IfSome o (λ a. KeepChallenges a.challenges x.challenges) → IfSome o (λ a. challenges_in a ≡ challenges_in x)
-    by None kept = tt
-    by (Some a) kept = kept.numbers
+numbers_kept T x kept = grind arith
 
 -- a change that keeps children and leaves challenges differing found them so, and brings new children
 one_brings : (T : Tables) (c : Change) → KeepsChildren T c → ChallengesDiffer (applied_one c T) → ChallengesDiffer T × BringsNewChildren T c
@@ -149,7 +135,4 @@ kept_bring_new (c ∷ cs) T kept h =
 -- what a call records brings with each new row children that stand nowhere yet
 pub records_bring_new_children : (F : History) (e : Entry) (es : List Entry) (m : ℕ) → clock F ≤ m → EachFollows (record_all m (e ∷ es) F) →
     AreNewChildren (picture F) (recorded_changes m (picture F) (e ∷ es))
-records_bring_new_children F e es m le h =
-    let G : History = record_all m (e ∷ es) F in
-    (kept_bring_new (recorded_changes m (picture F) (e ∷ es)) (picture F) (records_keep F e es m le h)
-    (subst ChallengesDiffer (sym (recorded F e es m le h)) (challenges_differ G (clock G)))).1
+records_bring_new_children F e es m le h = grind (arith, kept_bring_new, records_keep, recorded, challenges_differ)

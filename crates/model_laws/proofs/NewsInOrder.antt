@@ -1,16 +1,11 @@
 -- Change after change, what is put differs from what stands there by then.
-use Rattle.std.proofs.Common.{◌≡◌, ◌≤◌, ◌<◌, ℕ, ◌+◌, List, [], ◌∷◌, Some, None, refl, sym, ap, ◌∙◌, true, false, Bool, cond, not}
-use Rattle.std.specs.Prelude.{find, nat_lt, ◌==◌}
-use Rattle.std.proofs.lemmas.Bool.{eqb-true}
-use Rattle.desk_model.specs.{Entry.History, Legal.EachFollows, Tables.picture}
-use Rattle.desk_model.specs.declared.entry.Entry.{Entry}
-use Rattle.desk_model.specs.History.{clock, record_all}
+use Rattle.std.proofs.Common.{◌≡◌, ◌≤◌, ◌<◌, ℕ, ◌+◌, List, [], ◌∷◌, Some, None, sym, ap, ◌∙◌, cond, not, arith}
+use Rattle.std.specs.Prelude.{find, ◌==◌}
 use Rattle.desk_model.specs.Change.{put, remove, spent_by, recorded_changes}
-use Rattle.model_laws.specs.News.{AreNews, IsNews}
-use Rattle.model_laws.specs.{Ordered.Below, Placing.removes}
-use Rattle.model_laws.proofs.{Basics.less_differs, Recorded.below_filter}
-use Rattle.model_laws.proofs.InTurn.{Stays, entries_in_turn, records_in_turn, sweeps_in_turn}
+use Rattle.desk_model.specs.{Entry.History, Legal.EachFollows, Tables.picture, declared.entry.Entry.Entry, History.clock, History.record_all}
+use Rattle.model_laws.specs.{News.AreNews, News.IsNews, Ordered.Below, Placing.removes}
 use Rattle.model_laws.proofs.PutsDiffer.{nonces_differ, accounts_differ, authorizations_differ, orders_differ, expired_differ, fallen_differ}
+use Rattle.model_laws.proofs.{Basics.less_differs, Recorded.below_filter, InTurn.Stays, InTurn.entries_in_turn, InTurn.records_in_turn, InTurn.sweeps_in_turn}
 
 -- ---- one table
 
@@ -18,19 +13,7 @@ use Rattle.model_laws.proofs.PutsDiffer.{nonces_differ, accounts_differ, authori
 pub find_put : {X : Type 0} (number : X → ℕ) (x : X) (k : ℕ) (rows : List X) → number x < k →
     find (λ y. number y == k) (put number x rows) ≡ find (λ y. number y == k) rows
 find_put number x k [] lt = ap (λ b. cond b (Some x) None) (less_differs (number x) k lt)
-find_put number x k (y ∷ ys) lt = by (number x == number y) (nat_lt (number x) (number y)) refl (find_put number x k ys lt)
-  where
-    passed : (number x == k) ≡ false
-    passed = less_differs (number x) k lt
-
-    by : (same less : Bool) → (number x == number y) ≡ same → find (λ z. number z == k) (put number x ys) ≡ find (λ z. number z == k) ys →
-        find (λ z. number z == k) (cond same (x ∷ ys) (cond less (x ∷ y ∷ ys) (y ∷ put number x ys))) ≡ find (λ z. number z == k) (y ∷ ys)
-    by true less e ih =
-        let equal : number x ≡ number y = eqb-true (number x) (number y) e in
-        ap (λ b. cond b (Some x) (find (λ z. number z == k) ys)) passed
-        ∙ ap (λ b. cond b (Some y) (find (λ z. number z == k) ys)) (sym (ap (λ n. n == k) (sym equal) ∙ passed))
-    by false true e ih = ap (λ b. cond b (Some x) (find (λ z. number z == k) (y ∷ ys))) passed
-    by false false e ih = ap (cond (number y == k) (Some y)) ih
+find_put number x k (y ∷ ys) lt = grind (arith, (find_put number x k ys lt))
 
 -- what is left after removals is below
 below_removes : {X : Type 0} (number : X → ℕ) (k : ℕ) (ns : List ℕ) (rows : List X) → Below number k rows → Below number k (removes number ns rows)

@@ -1,27 +1,19 @@
 -- Numbers: how they are given, and that an entry names only such as were given.
-use Rattle.std.proofs.Common.{◌≡◌, ◌≤◌, ◌<◌, ℕ, ◌+◌, List, [], ◌∷◌, ◌++◌, length, Option, Some, None, refl, subst, true, false, Bool, cond, arith}
-use Rattle.std.proofs.Common.{length-append}
-use Rattle.std.specs.Prelude.{◌==◌, ◌||◌, find}
-use Rattle.std.specs.List.{list_any, list_all}
-use Rattle.std.proofs.lemmas.Bool.{eqb-true, and_parts}
-use Rattle.desk_model.specs.{Entry.History, Lookup.holds, Kept.EachOf}
+use Rattle.std.proofs.Common.{◌≡◌, ◌≤◌, ◌<◌, ℕ, ◌+◌, List, [], ◌∷◌, ◌++◌, length, Option, None, refl, subst, true, Bool, arith, length-append}
+use Rattle.std.proofs.lemmas.Bool.{and_parts}
+use Rattle.std.specs.{Prelude.◌==◌, Prelude.find, List.list_any, List.list_all}
 use Rattle.desk_model.specs.History.{terms, first, latest, earlier}
-use Rattle.desk_model.specs.Nonce.{nonces, issued_by}
-use Rattle.desk_model.specs.Account.{accounts, opened_by}
-use Rattle.desk_model.specs.Authorization.{authorizations, has_challenge, made_by, made_for, kinds_of, challenges_from, count_challenges, challenge_status}
-use Rattle.desk_model.specs.Order.{orders, ordered_by}
-use Rattle.desk_model.specs.Legal.{EachFollows, may_follow, may_want, is_pending_challenge, is_processing_challenge}
-use Rattle.desk_model.specs.declared.{entry.Dated.Dated, entry.Entry.Entry, entry.Wanted.Wanted, objects.Authorization.Authorization}
-use Rattle.desk_model.specs.declared.{objects.Challenge.Challenge, status.Kind.Kind, objects.Order.Order}
-use Rattle.desk_model.specs.declared.entry.Entry.TheVariants.{Issued as issued, Spent as spent, Opened as opened, ContactsChanged as contacts_changed}
-use Rattle.desk_model.specs.declared.entry.Entry.TheVariants.{KeyChanged as key_changed, AccountEnded as account_ended, Ordered as ordered}
-use Rattle.desk_model.specs.declared.entry.Entry.TheVariants.{Answered as answered, Reported as reported, AuthorizationEnded as authorization_ended}
-use Rattle.desk_model.specs.declared.entry.Entry.TheVariants.{Finalized as finalized, Certified as certified, Failed as failed}
-use Rattle.desk_model.specs.declared.entry.Wanted.TheVariants.{New, Reused}
-use Rattle.model_laws.proofs.Basics.{each, IsNumbered, numbered-append}
-use Rattle.model_laws.specs.Given.{Counts, counts, NamesGiven}
-use Rattle.model_laws.specs.Reused.{OfReused}
-use Rattle.model_laws.proofs.{NewOrders.may_be_ordered, OrderFacts.authorizations_numbered}
+use Rattle.desk_model.specs.Authorization.{authorizations, has_challenge, made_by, made_for, kinds_of, challenges_from, count_challenges}
+use Rattle.desk_model.specs.declared.entry.Entry.TheVariants.{Spent as spent, ContactsChanged as contacts_changed, KeyChanged as key_changed}
+use Rattle.desk_model.specs.declared.entry.Entry.TheVariants.{AccountEnded as account_ended, Ordered as ordered, Answered as answered, Reported as reported}
+use Rattle.desk_model.specs.declared.entry.Entry.TheVariants.{AuthorizationEnded as authorization_ended, Finalized as finalized, Certified as certified}
+use Rattle.desk_model.specs.declared.entry.Entry.TheVariants.{Failed as failed}
+use Rattle.desk_model.specs.{Entry.History, Lookup.holds, Kept.EachOf, Nonce.nonces, Account.accounts, Order.orders, Order.ordered_by, Legal.EachFollows}
+use Rattle.desk_model.specs.{Legal.may_follow, Legal.may_want, declared.entry.Dated.Dated, declared.entry.Entry.Entry, declared.entry.Wanted.Wanted}
+use Rattle.desk_model.specs.{declared.objects.Authorization.Authorization, declared.objects.Challenge.Challenge, declared.status.Kind.Kind}
+use Rattle.desk_model.specs.{declared.objects.Order.Order, declared.entry.Wanted.TheVariants.New, declared.entry.Wanted.TheVariants.Reused}
+use Rattle.model_laws.proofs.{Basics.each, Basics.IsNumbered, Basics.numbered-append, NewOrders.may_be_ordered, OrderFacts.authorizations_numbered}
+use Rattle.model_laws.specs.{Given.Counts, Given.counts, Given.NamesGiven, Reused.OfReused}
 
 -- ---- facts that no entry states
 
@@ -41,10 +33,7 @@ first_no fact [] h = tt
 first_no fact (e ∷ F) h = let p = parts (first fact F) (fact e) h in (p.1, first_no fact F p.0)
   where
     parts : {X : Type 0} (x y : Option X) → earlier x y ≡ None → (x ≡ None) × (y ≡ None)
-    parts None None k = (refl, refl)
-    parts None (Some y) k = cc
-    parts (Some x) None k = cc
-    parts (Some x) (Some y) k = cc
+    parts x y k = grind arith
 
 -- ---- numbers
 
@@ -91,27 +80,11 @@ made_now e F = made_by e.entry e.date (terms F).authz_life (length (authorizatio
 abbrev pub ordered_now : Dated → History → List Order
 ordered_now e F = ordered_by e.entry e.date (terms F) (length (authorizations F) + 1) (length (orders F) + 1)
 
--- counts only grow
-counts_grow : (e : Dated) (F : History) → IsWithin (counts F) (counts (e ∷ F))
-counts_grow e F =
-    record {
-      nonces = omega (arith, length-append (nonces F) (issued_by e.entry e.date (length (nonces F) + 1)));
-      accounts = omega (arith, length-append (accounts F) (opened_by e.entry e.date (length (accounts F) + 1)));
-      orders = omega (arith, length-append (orders F) (ordered_now e F));
-      authorizations = omega (arith, length-append (authorizations F) (made_now e F));
-      challenges = omega (arith, count-append (authorizations F) (made_now e F));
-    }
-
 -- what is found by its number is among the first
 found_below : {X : Type 0} (number : X → ℕ) (n k : ℕ) (xs : List X) (test : X → Bool) → IsNumbered number n xs →
     holds test (find (λ x. number x == k) xs) ≡ true → k < n + length xs
 found_below number n k [] test h is = cc
-found_below number n k (x ∷ xs) test h is = by (number x == k) refl is (found_below number (n + 1) k xs test h.1)
-  where
-    by : (b : Bool) → (number x == k) ≡ b → holds test (cond b (Some x) (find (λ y. number y == k) xs)) ≡ true →
-        (holds test (find (λ y. number y == k) xs) ≡ true → k < (n + 1) + length xs) → k < n + length (x ∷ xs)
-    by true e p ih = let same : number x ≡ k = eqb-true (number x) k e in let start : number x ≡ n = h.0 in omega arith
-    by false e p ih = let below : k < (n + 1) + length xs = ih p in omega arith
+found_below number n k (x ∷ xs) test h is = grind (arith, (found_below number (n + 1) k xs test h.1))
 
 -- where they count up from 1, its number is not greater than theirs
 found_given : {X : Type 0} (number : X → ℕ) (k : ℕ) (xs : List X) (test : X → Bool) → IsNumbered number 1 xs →
@@ -121,31 +94,17 @@ found_given number k xs test h is = let below : k < 1 + length xs = found_below 
 -- serials of nonces count up from 1
 pub nonces_numbered : (F : History) → IsNumbered (λ n. n.serial) 1 (nonces F)
 nonces_numbered [] = tt
-nonces_numbered (e ∷ F) = numbered-append (λ n. n.serial) 1 (nonces F) _ (length (nonces F) + 1) (omega arith) (nonces_numbered F) (one e.entry)
-  where
-    one : (entry : Entry) → IsNumbered (λ n. n.serial) (length (nonces F) + 1) (issued_by entry e.date (length (nonces F) + 1))
-    one (issued r) = (refl, tt)
-    one _ = tt
+nonces_numbered (e ∷ F) = grind (arith, numbered-append, (nonces_numbered F))
 
 -- numbers of accounts count up from 1
 pub accounts_numbered : (F : History) → IsNumbered (λ a. a.number) 1 (accounts F)
 accounts_numbered [] = tt
-accounts_numbered (e ∷ F) =
-    numbered-append (λ a. a.number) 1 (accounts F) _ (length (accounts F) + 1) (omega arith) (accounts_numbered F) (one e.entry)
-  where
-    one : (entry : Entry) → IsNumbered (λ a. a.number) (length (accounts F) + 1) (opened_by entry e.date (length (accounts F) + 1))
-    one (opened k cs) = (refl, tt)
-    one _ = tt
+accounts_numbered (e ∷ F) = grind (arith, numbered-append, (accounts_numbered F))
 
 -- numbers of orders count up from 1
 pub orders_numbered : (F : History) → IsNumbered (λ o. o.number) 1 (orders F)
 orders_numbered [] = tt
-orders_numbered (e ∷ F) = numbered-append (λ o. o.number) 1 (orders F) _ (length (orders F) + 1) (omega arith) (orders_numbered F) (one e.entry)
-  where
-    one : (entry : Entry) →
-        IsNumbered (λ o. o.number) (length (orders F) + 1) (ordered_by entry e.date (terms F) (length (authorizations F) + 1) (length (orders F) + 1))
-    one (ordered k ws) = (refl, tt)
-    one _ = tt
+orders_numbered (e ∷ F) = grind (arith, numbered-append, (orders_numbered F))
 
 -- the challenges' numbers count up through all authorizations
 abbrev pub AreNumbered : ℕ → List Authorization → Type 0
@@ -174,35 +133,18 @@ are_numbered-append n (x ∷ xs) ys k e h g = (h.0, are_numbered-append (n + len
 -- numbers of challenges count up from 1
 pub challenges_count : (F : History) → AreNumbered 1 (authorizations F)
 challenges_count [] = tt
-challenges_count (e ∷ F) =
-    are_numbered-append 1 (authorizations F) _ (count_challenges (authorizations F) + 1) (omega arith) (challenges_count F) (more e.entry)
-  where
-    more : (entry : Entry) →
-        AreNumbered (count_challenges (authorizations F) + 1)
-        (made_by entry e.date (terms F).authz_life (length (authorizations F) + 1) (count_challenges (authorizations F) + 1))
-    more (ordered k ws) = made_are_numbered k e.date _ ws _ _
-    more _ = tt
+challenges_count (e ∷ F) = grind (arith, are_numbered-append, made_are_numbered, (challenges_count F))
 
 -- a challenge of an authorization is among those counted
 any_below : (n k : ℕ) (cs : List Challenge) → IsNumbered (λ c. c.number) n cs → list_any (λ c. k == c.number) cs ≡ true → k < n + length cs
 any_below n k [] h is = cc
-any_below n k (c ∷ cs) h is = by (k == c.number) refl is (any_below (n + 1) k cs h.1)
-  where
-    by : (b : Bool) → (k == c.number) ≡ b → (b || list_any (λ d. k == d.number) cs) ≡ true →
-        (list_any (λ d. k == d.number) cs ≡ true → k < (n + 1) + length cs) → k < n + length (c ∷ cs)
-    by true e p ih = let same : k ≡ c.number = eqb-true k c.number e in let start : c.number ≡ n = h.0 in omega arith
-    by false e p ih = let below : k < (n + 1) + length cs = ih p in omega arith
+any_below n k (c ∷ cs) h is = grind (arith, (any_below (n + 1) k cs h.1))
 
 -- a challenge that is of an authorization is among the first
 challenge_below : (n k : ℕ) (xs : List Authorization) (test : Authorization → Bool) → AreNumbered n xs →
     holds test (find (has_challenge k) xs) ≡ true → k < n + count_challenges xs
 challenge_below n k [] test h is = cc
-challenge_below n k (x ∷ xs) test h is = by (has_challenge k x) refl is (challenge_below (n + length x.challenges) k xs test h.1)
-  where
-    by : (b : Bool) → has_challenge k x ≡ b → holds test (cond b (Some x) (find (has_challenge k) xs)) ≡ true →
-        (holds test (find (has_challenge k) xs) ≡ true → k < (n + length x.challenges) + count_challenges xs) → k < n + count_challenges (x ∷ xs)
-    by true e p ih = let below : k < n + length x.challenges = any_below n k x.challenges h.0 e in omega arith
-    by false e p ih = let below : k < (n + length x.challenges) + count_challenges xs = ih p in omega arith
+challenge_below n k (x ∷ xs) test h is = grind (arith, any_below, (challenge_below (n + length x.challenges) k xs test h.1))
 
 -- an entry that may follow names only numbers that were given
 names_allowed : (F : History) (e : Entry) (m : ℕ) → may_follow F e m ≡ true → NamesGiven (counts F) e
@@ -220,12 +162,8 @@ names_allowed F (ordered n ws) m may =
     reused_below (Reused name k ∷ xs) h =
         let p = and_parts (may_want F m n (Reused name k)) _ h in
         (found_given (λ x. x.number) k (authorizations F) _ (authorizations_numbered F) p.0, reused_below xs p.1)
-names_allowed F (answered n) m may =
-    let below : n < 1 + count_challenges (authorizations F) = challenge_below 1 n (authorizations F) _ (challenges_count F)
-    (and_parts _ (is_pending_challenge (challenge_status n F)) may).0 in omega arith
-names_allowed F (reported n o) m may =
-    let below : n < 1 + count_challenges (authorizations F) = challenge_below 1 n (authorizations F) _ (challenges_count F)
-    (and_parts _ (is_processing_challenge (challenge_status n F)) may).0 in omega arith
+names_allowed F (answered n) m may = grind (arith, challenge_below, (challenges_count F))
+names_allowed F (reported n o) m may = grind (arith, challenge_below, (challenges_count F))
 names_allowed F (authorization_ended n s) m may = found_given (λ x. x.number) n (authorizations F) _ (authorizations_numbered F) may
 names_allowed F (finalized n bytes) m may = found_given (λ x. x.number) n (orders F) _ (orders_numbered F) (and_parts _ _ may).0
 names_allowed F (certified n bytes) m may = found_given (λ x. x.number) n (orders F) _ (orders_numbered F) (and_parts _ _ may).0
@@ -235,7 +173,4 @@ names_allowed F _ m may = tt
 -- each entry names only numbers that were given
 pub all_named : (F : History) → EachFollows F → EachOf (λ d. NamesGiven (counts F) d.entry) F
 all_named [] h = tt
-all_named (e ∷ F) h = (
-  names_more (counts F) (counts (e ∷ F)) (counts_grow e F) e.entry (names_allowed F e.entry e.date h.0.allowed),
-  each _ _ F (λ d. names_more (counts F) (counts (e ∷ F)) (counts_grow e F) d.entry) (all_named F h.1),
-)
+all_named (e ∷ F) h = grind (arith, names_more, length-append, count-append, names_allowed, each, (all_named F h.1))

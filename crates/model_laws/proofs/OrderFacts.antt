@@ -1,30 +1,24 @@
 -- What an entry, and the passing of time, does to the row of an order.
-use Rattle.std.proofs.Common.{◌≡◌, ◌≤◌, ℕ, ◌+◌, List, [], ◌∷◌, length, map, Option, Some, None, refl, sym, ap, ◌∙◌, true, false, Bool, cond, arith}
+use Rattle.std.proofs.Common.{◌≡◌, ◌≤◌, ℕ, ◌+◌, List, [], ◌∷◌, length, map, Option, Some, refl, sym, ap, ◌∙◌, true, false, Bool, cond, arith}
+use Rattle.std.proofs.{lemmas.Bool.or_parts, lemmas.Bool.and_parts, lemmas.List.Folds.list_all-map}
 use Rattle.std.specs.Prelude.{nat_lt, ◌==◌, ◌&&◌, ◌||◌, is_some, IsSome}
-use Rattle.std.specs.List.{list_any, list_all}
-use Rattle.std.specs.Option.{option_map}
-use Rattle.std.proofs.lemmas.Bool.{or_parts, and_parts}
-use Rattle.std.proofs.lemmas.List.Folds.{list_all-map}
-use Rattle.desk_model.specs.{Entry.History, Lookup.holds, Kept.EachOf}
-use Rattle.desk_model.specs.History.{clock, terms}
-use Rattle.desk_model.specs.Authorization.{authorizations, authorization, made_by, made_for, count_challenges, authorization_status, is_over, is_valid, is_live}
+use Rattle.std.specs.{List.list_any, List.list_all, Option.option_map}
+use Rattle.desk_model.specs.Authorization.{authorizations, authorization, made_by, made_for, count_challenges, authorization_status, is_over, is_valid}
 use Rattle.desk_model.specs.Order.{orders, ordered_by, order_status, order_status_by, has_lost, all_valid, and_found, authorizations_at, listed_by}
-use Rattle.desk_model.specs.Legal.{EachFollows, may_follow, may_serve, may_want}
-use Rattle.desk_model.specs.Tables.{authorization_row, order_row, listed_from}
 use Rattle.desk_model.specs.Derived.{stored_statuses, and_status, authorization_numbered, numbers_of, restated_order}
 use Rattle.desk_model.specs.Effect.{noted_order, touches_authorization, names_order, lists_one, touches_order, moved_order, is_overdue, is_live_order, falls}
 use Rattle.desk_model.specs.Effect.{swept_order}
+use Rattle.desk_model.specs.{Entry.History, Lookup.holds, Kept.EachOf, History.clock, History.terms, Legal.EachFollows, Legal.may_follow, Legal.may_serve}
+use Rattle.desk_model.specs.{Legal.may_want, Tables.authorization_row, Tables.order_row, Tables.listed_from}
 use Rattle.desk_model.specs.declared.{status.AuthzStatus.AuthzStatus, entry.Dated.Dated, entry.Entry.Entry, entry.Entry.TheVariants.Ordered as ordered}
 use Rattle.desk_model.specs.declared.{entry.Wanted.Wanted, objects.Authorization.Authorization, objects.Order.Order, rows.AuthorizationRow.AuthorizationRow}
-use Rattle.desk_model.specs.declared.{rows.OrderRow.OrderRow}
+use Rattle.desk_model.specs.declared.{rows.OrderRow.OrderRow, entry.Wanted.TheVariants.New as new, entry.Wanted.TheVariants.Reused as reused}
 use Rattle.desk_model.specs.declared.status.AuthzStatus.TheVariants as authz
 use Rattle.desk_model.specs.declared.status.OrderStatus.TheVariants as order
-use Rattle.desk_model.specs.declared.entry.Wanted.TheVariants.{New as new, Reused as reused}
 use Rattle.model_laws.proofs.Basics.{list_any-map, list_any-same, any_or, each, each-append, each_after, map-each, find-map, find-append, still_some, there}
 use Rattle.model_laws.proofs.Basics.{IsNumbered, numbered-append}
-use Rattle.model_laws.proofs.{OrderDates.order_unnoted, NewOrders.may_be_ordered}
-use Rattle.model_laws.proofs.RowLists.{ascends_found, numbered_ascends}
 use Rattle.model_laws.proofs.RowFacts.{authorization_kept, authorization_later, past_later}
+use Rattle.model_laws.proofs.{OrderDates.order_unnoted, NewOrders.may_be_ordered, RowLists.ascends_found, RowLists.numbered_ascends}
 use Rattle.model_laws.specs.{Ordered.Ascends, Reused.OfReused}
 
 -- ---- the authorizations of an order are found by their numbers
@@ -45,15 +39,12 @@ made_for_numbered account date expires (reused name k ∷ ws) n c = made_for_num
 
 -- those of an entry count up
 pub made_by_numbered : (e : Entry) (date life n c : ℕ) → IsNumbered (λ a. a.number) n (made_by e date life n c)
-made_by_numbered (ordered account ws) date life n c = made_for_numbered account date (date + life) ws n c
-made_by_numbered _ date life n c = tt
+made_by_numbered e date life n c = grind (arith, made_for_numbered)
 
 -- numbers of authorizations count up from 1
 pub authorizations_numbered : (F : History) → IsNumbered (λ a. a.number) 1 (authorizations F)
 authorizations_numbered [] = tt
-authorizations_numbered (e ∷ F) =
-    numbered-append (λ a. a.number) 1 (authorizations F) _ (length (authorizations F) + 1) (omega arith) (authorizations_numbered F)
-    (made_by_numbered e.entry e.date _ _ _)
+authorizations_numbered (e ∷ F) = grind (arith, numbered-append, made_by_numbered, (authorizations_numbered F))
 
 -- each authorization is found by its number
 pub all_found : (F : History) → EachOf (λ a. authorization a.number F ≡ Some a) (authorizations F)
@@ -61,9 +52,7 @@ all_found F = ascends_found (λ a. a.number) 1 (authorizations F) (numbered_asce
 
 -- what is found stays found
 pub found_later : (F : History) (e : Dated) (n : ℕ) → IsFound F n → IsFound (e ∷ F) n
-found_later F e n h =
-    still_some (λ a. a.number == n) (authorizations F)
-    (made_by e.entry e.date (terms F).authz_life (length (authorizations F) + 1) (count_challenges (authorizations F) + 1)) h
+found_later F e n h = grind (arith, still_some)
 
 -- what holds of the numbers of those that are made, and of those that are used again, holds of all that an order lists
 pub each_listed : (P : ℕ → Type 0) (account date expires : ℕ) (ws : List Wanted) (n c : ℕ) →
@@ -132,12 +121,7 @@ statuses_of F t xs = map (λ a. authorization_status a F t) xs
 -- the stored statuses are those that the history gives
 stored : (F : History) (t : ℕ) (ns : List ℕ) → stored_statuses (map (authorization_row F t) (authorizations F)) ns ≡ statuses_of F t (authorizations_at ns F)
 stored F t [] = refl
-stored F t (n ∷ ns) = (λ i. and_status (numbered_row F t n i) (stored F t ns i)) ∙ one (authorization n F) (authorizations_at ns F)
-  where
-    one : (o : Option Authorization) (xs : List Authorization) →
-        and_status (option_map (authorization_row F t) o) (statuses_of F t xs) ≡ statuses_of F t (and_found o xs)
-    one None xs = refl
-    one (Some a) xs = refl
+stored F t (n ∷ ns) = (λ i. and_status (numbered_row F t n i) (stored F t ns i)) ∙ grind arith
 
 -- also those of what an order lists
 stored_listed : (F : History) (t : ℕ) (o : Order) →
@@ -167,14 +151,7 @@ none_listed : (F : History) (t p : ℕ) (test : AuthorizationRow → Bool) (ns :
     lists_one test (map (authorization_row F t) (authorizations F)) (numbers_of (listed_from p ns))
     ≡ list_any (λ a. test (authorization_row F t a)) (authorizations_at ns F)
 none_listed F t p test [] = refl
-none_listed F t p test (n ∷ ns) =
-    (λ i. holds test (numbered_row F t n i) || none_listed F t (p + 1) test ns i) ∙ one (authorization n F) (authorizations_at ns F)
-  where
-    one : (o : Option Authorization) (xs : List Authorization) →
-        (holds test (option_map (authorization_row F t) o) || list_any (λ a. test (authorization_row F t a)) xs)
-        ≡ list_any (λ a. test (authorization_row F t a)) (and_found o xs)
-    one None xs = refl
-    one (Some a) xs = refl
+none_listed F t p test (n ∷ ns) = (λ i. holds test (numbered_row F t n i) || none_listed F t (p + 1) test ns i) ∙ grind arith
 
 -- the authorizations of an order stay what they are
 at_later : (F : History) (e : Dated) (ns : List ℕ) → EachOf (IsFound F) ns → authorizations_at ns (e ∷ F) ≡ authorizations_at ns F
@@ -182,8 +159,7 @@ at_later F e [] h = refl
 at_later F e (n ∷ ns) h = λ i. and_found (same (authorization n F) refl h.0 i) (at_later F e ns h.1 i)
   where
     same : (o : Option Authorization) → authorization n F ≡ o → IsSome o → authorization n (e ∷ F) ≡ authorization n F
-    same None p there = cc
-    same (Some a) p there = find-append (λ x. x.number == n) (authorizations F) _ a p ∙ sym p
+    same o l k = grind (arith, find-append)
 
 -- where no item passes, each fails
 each_not : {X : Type 0} (p : X → Bool) (xs : List X) → list_any p xs ≡ false → EachOf (λ x. p x ≡ false) xs
@@ -228,17 +204,7 @@ order_moves F e m o each_follows le found = by (touches_order e (map (authorizat
 -- an authorization that is over stays so; another is over at the later moment exactly where it is overdue
 over_later : (F : History) (t m : ℕ) (a : Authorization) → t ≤ m →
     is_over (authorization_status a F m) ≡ (is_over (authorization_status a F t) || is_overdue m (authorization_row F t a))
-over_later F t m a le = ap is_over (authorization_later F t m a le) ∙ by (authorization_status a F t) (nat_lt a.expires m)
-  where
-    by : (s : AuthzStatus) (b : Bool) → is_over (cond (is_live s && b) authz.Expired s) ≡ (is_over s || (is_live s && b))
-    by authz.Pending true = refl
-    by authz.Pending false = refl
-    by authz.Valid true = refl
-    by authz.Valid false = refl
-    by authz.Expired b = refl
-    by authz.Invalid b = refl
-    by authz.Deactivated b = refl
-    by authz.Revoked b = refl
+over_later F t m a le = grind arith
 
 -- an order has lost one at the later moment where it had before, or one is overdue
 lost_later : (F : History) (t m : ℕ) (o : Order) → t ≤ m →
@@ -268,21 +234,7 @@ valid_later F t m o le h =
 order_status_later : (c f x y z v w l d : Bool) → (x ≡ true → y ≡ true) → (d ≡ false → w ≡ v) →
     order_status_by c (f || (y || (l || d))) z w
     ≡ cond (is_live_order (order_status_by c (f || (x || l)) z v) && (y || d)) order.Invalid (order_status_by c (f || (x || l)) z v)
-order_status_later true f x y z v w l d more same = refl
-order_status_later false true x y z v w l d more same = refl
-order_status_later false false true true z v w l d more same = refl
-order_status_later false false true false z v w l d more same = let no : false ≡ true = more refl in cc
-order_status_later false false false true z v w true d more same = refl
-order_status_later false false false false z v w true d more same = refl
-order_status_later false false false true true v w false d more same = refl
-order_status_later false false false true false true w false d more same = refl
-order_status_later false false false true false false w false d more same = refl
-order_status_later false false false false true v w false true more same = refl
-order_status_later false false false false false true w false true more same = refl
-order_status_later false false false false false false w false true more same = refl
-order_status_later false false false false true v w false false more same = refl
-order_status_later false false false false false true w false false more same = rw (same refl) refl
-order_status_later false false false false false false w false false more same = rw (same refl) refl
+order_status_later c f x y z v w l d h k = grind arith
 
 -- an order's status at a later moment
 pub order_later : (F : History) (t m : ℕ) (o : Order) → t ≤ m →
@@ -295,11 +247,4 @@ order_later F t m o le =
 -- an order's row at a later moment
 pub order_swept : (F : History) (t m : ℕ) (o : Order) → t ≤ m →
     order_row F m o ≡ swept_order m (map (authorization_row F t) (authorizations F)) (order_row F t o)
-order_swept F t m o le =
-    (λ i. record (order_row F t o) { status = order_later F t m o le i })
-    ∙ by (falls m (map (authorization_row F t) (authorizations F)) (order_row F t o))
-  where
-    by : (b : Bool) → (let r : OrderRow = record (order_row F t o) { status = cond b order.Invalid (order_status o F t) } in
-        r ≡ cond b (record (order_row F t o) { status = order.Invalid }) (order_row F t o))
-    by true = refl
-    by false = refl
+order_swept F t m o le = (λ i. record (order_row F t o) { status = order_later F t m o le i }) ∙ grind arith

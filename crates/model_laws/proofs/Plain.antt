@@ -1,13 +1,11 @@
 -- A signed request spends a nonce and issues one before its own entry: these two touch no other table.
-use Rattle.std.proofs.Common.{◌≡◌, ℕ, ◌+◌, List, [], ◌∷◌, ◌++◌, map, Option, Some, None, refl, sym, ap, ◌∙◌, subst, true, false, cond, arith}
+use Rattle.std.proofs.Common.{◌≡◌, ℕ, ◌+◌, List, [], ◌∷◌, ◌++◌, map, Option, refl, sym, ap, subst, true, false, cond, arith}
 use Rattle.std.specs.Prelude.{◌||◌}
-use Rattle.desk_model.specs.{Lookup.holds, Tables.Tables, Order.listed_by}
-use Rattle.desk_model.specs.Derived.{numbers_of, authorization_numbered}
 use Rattle.desk_model.specs.Effect.{effect, moved_order, lists_one, new_authorizations, touches_account, touches_authorization, touches_order}
-use Rattle.desk_model.specs.Kept.{Kept, EachOf, IsClosed, Covers}
-use Rattle.desk_model.specs.declared.{entry.Entry.Entry, objects.Authorization.Authorization, rows.AccountRow.AccountRow}
-use Rattle.desk_model.specs.declared.rows.{AuthorizationRow.AuthorizationRow, OrderRow.OrderRow}
-use Rattle.desk_model.specs.declared.entry.Entry.TheVariants.{Issued as issued, Spent as spent, Ordered as ordered}
+use Rattle.desk_model.specs.{Lookup.holds, Tables.Tables, Order.listed_by, Derived.numbers_of, Derived.authorization_numbered, Kept.Kept, Kept.EachOf}
+use Rattle.desk_model.specs.{Kept.IsClosed, Kept.Covers, declared.objects.Authorization.Authorization, declared.rows.AccountRow.AccountRow}
+use Rattle.desk_model.specs.{declared.rows.AuthorizationRow.AuthorizationRow, declared.rows.OrderRow.OrderRow}
+use Rattle.desk_model.specs.declared.entry.Entry.{Entry, TheVariants.Issued as issued, TheVariants.Spent as spent, TheVariants.Ordered as ordered}
 use Rattle.model_laws.proofs.{RowLists.numbered_ascends, Basics.each_all, Chain.up_kept}
 use Rattle.model_laws.proofs.OrderFacts.{each_listed, made_by_numbered, numbers_listed}
 use Rattle.model_laws.specs.Parts.{FreshKept, ReusedKept, CoversAll}
@@ -18,8 +16,7 @@ nothing_touched rows [] = refl
 nothing_touched rows (n ∷ ns) = λ i. nowhere (authorization_numbered n rows) i || nothing_touched rows ns i
   where
     nowhere : (o : Option AuthorizationRow) → holds (λ a. false) o ≡ false
-    nowhere None = refl
-    nowhere (Some a) = refl
+    nowhere o = grind arith
 
 -- rows that stay what they are
 kept_rows : {X : Type 0} (f : X → X) (xs : List X) → ((x : X) → f x ≡ x) → map f xs ++ [] ≡ xs
@@ -34,8 +31,7 @@ LeavesRows m T e = effect m T e ≡ record T { meta = (effect m T e).meta; nonce
 leaves_rows : (m : ℕ) (T : Tables) (e : Entry) → (effect m T e).accounts ≡ T.accounts → (effect m T e).authorizations ≡ T.authorizations →
     ((o : OrderRow) → moved_order e m T.authorizations (effect m T e).authorizations o ≡ o) →
     (effect m T e).orders ≡ map (moved_order e m T.authorizations (effect m T e).authorizations) T.orders ++ [] → LeavesRows m T e
-leaves_rows m T e accounts authorizations stays orders =
-    λ i. record (effect m T e) { accounts = accounts i; authorizations = authorizations i; orders = (orders ∙ kept_rows _ T.orders stays) i }
+leaves_rows m T e accounts authorizations stays orders = grind (arith, kept_rows)
 
 -- an order that lists no row which passes a test that none passes is not touched
 order_stays : (T : Tables) (move : OrderRow → OrderRow) (o : OrderRow) → cond (lists_one (λ a. false) T.authorizations (numbers_of o.listed)) (move o) o ≡ o
@@ -53,15 +49,7 @@ issued_effect m T r = leaves_rows m T (issued r) (kept_rows _ T.accounts (λ a. 
 
 -- a closed part stays closed
 pub left_closed : (k : Kept) (m : ℕ) (T : Tables) (e : Entry) → LeavesRows m T e → IsClosed k T → IsClosed k (effect m T e)
-left_closed k m T e left h =
-    subst (IsClosed k) (sym left)
-    (record {
-      listed = h.listed;
-      new_nonces = λ j lt. h.new_nonces j (omega arith);
-      new_accounts = λ j lt. h.new_accounts j (omega arith);
-      new_authorizations = λ j lt. h.new_authorizations j (omega arith);
-      new_orders = λ j lt. h.new_orders j (omega arith);
-    })
+left_closed k m T e left h = grind arith
 
 -- where a nonce is spent
 pub spent_closed : (k : Kept) (m : ℕ) (T : Tables) (n : ℕ) → IsClosed k T → IsClosed k (effect m T (spent n))
@@ -85,13 +73,7 @@ TouchesNone T e =
 
 -- each part covers such an entry
 none_covered : (k : Kept) (T : Tables) (e : Entry) → TouchesNone T e → Covers k T e
-none_covered k T e none =
-    record {
-      accounts = each_all _ T.accounts (λ a h. let no = none.0 a in cc);
-      authorizations = each_all _ T.authorizations (λ r h. let no = none.1 r in cc);
-      orders = each_all _ T.orders (λ o h. let no = none.2 o in cc);
-      holders = each_all _ T.authorizations (λ r h. let no = none.1 r in cc);
-    }
+none_covered k T e none = grind (arith, each_all)
 
 -- the spending of a nonce
 pub covers_spent : (k : Kept) (T : Tables) (n : ℕ) → Covers k T (spent n)

@@ -1,27 +1,21 @@
 -- What is put, beside what stands there.
-use Rattle.std.proofs.Common.{subst, ◌≡◌, ◌≢◌, ◌≤◌, ◌<◌, ℕ, ◌+◌, List, [], ◌∷◌, ◌++◌, map, filter, Some, None, refl, sym, ap, ◌∙◌, true, false, Bool, cond}
-use Rattle.std.proofs.Common.{arith}
-use Rattle.std.specs.Prelude.{IfSome, IsTrue, Option, ◌==◌, ◌&&◌, find, is_some, unwrap_or}
-use Rattle.desk_model.specs.{Keys.thumbprint, History.earlier, Tables.Tables, Authorization.is_live, Kept.EachOf}
-use Rattle.desk_model.specs.declared.{objects.Answer.Answer, entry.Entry.Entry, objects.Nonce.Nonce, rows.AuthorizationRow.AuthorizationRow}
-use Rattle.desk_model.specs.declared.{rows.OrderRow.OrderRow, rows.ChallengeRow.ChallengeRow, rows.Change.Change}
+use Rattle.std.proofs.Common.{subst, ◌≡◌, ◌≢◌, ◌≤◌, ◌<◌, ℕ, ◌+◌, List, [], ◌∷◌, ◌++◌, map, filter, Some, None, refl, sym, ap, ◌∙◌, true, false, Bool, arith}
 use Rattle.std.proofs.lemmas.Bool.{and_parts}
-use Rattle.desk_model.specs.Derived.{restated_authorization, restated_order}
-use Rattle.desk_model.specs.Effect.{noted_challenge, answered_challenge, reported_challenge, noted_account, noted_authorization, noted_order, touches_account}
-use Rattle.desk_model.specs.Effect.{touches_authorization, touches_order, authorizations_after, is_live_order, is_overdue, falls}
+use Rattle.std.specs.Prelude.{IfSome, IsTrue, ◌==◌, ◌&&◌, find, is_some}
+use Rattle.desk_model.specs.Effect.{noted_challenge, noted_account, noted_authorization, noted_order, touches_account, touches_authorization, touches_order}
+use Rattle.desk_model.specs.Effect.{authorizations_after, is_overdue, falls}
 use Rattle.desk_model.specs.Change.{moved_rows, account_differs, authorization_differs, order_differs, spent_by, nonces_put, accounts_put, authorizations_put}
 use Rattle.desk_model.specs.Change.{orders_put, changes, nonces_gone, authorizations_expired, orders_fallen, sweep_changes}
-use Rattle.desk_model.specs.declared.entry.Entry.TheVariants.{Answered as answered, Reported as reported}
 use Rattle.desk_model.specs.declared.rows.Change.TheVariants.{PutNonce, RemoveNonce, PutAccount, PutAuthorization, PutOrder}
+use Rattle.desk_model.specs.{Tables.Tables, Kept.EachOf, declared.entry.Entry.Entry, declared.objects.Nonce.Nonce}
+use Rattle.desk_model.specs.{declared.rows.AuthorizationRow.AuthorizationRow, declared.rows.OrderRow.OrderRow, declared.rows.ChallengeRow.ChallengeRow}
+use Rattle.desk_model.specs.{declared.rows.Change.Change, Derived.restated_authorization, Derived.restated_order}
 use Rattle.desk_model.specs.declared.status.AuthzStatus.TheVariants as authz
 use Rattle.desk_model.specs.declared.status.OrderStatus.TheVariants as order
-use Rattle.model_laws.specs.News.{IsNews, KeepsChildren, StayAnswered}
-use Rattle.model_laws.specs.Ordered.{Ascends, Below, IsTable, IsOrdered}
-use Rattle.model_laws.proofs.MovedRows.{challenge_number}
-use Rattle.model_laws.proofs.Basics.{each_all, each-append, each-map}
-use Rattle.model_laws.proofs.Differing.{account_differs_not, authorization_differs_not, order_differs_not}
-use Rattle.model_laws.proofs.RowLists.{ascends_found, none_below}
+use Rattle.model_laws.specs.{News.IsNews, News.KeepsChildren, News.StayAnswered, Ordered.Ascends, Ordered.Below, Ordered.IsTable, Ordered.IsOrdered}
 use Rattle.model_laws.proofs.Recorded.{issued_up, opened_up, ordered_up, made_up}
+use Rattle.model_laws.proofs.{MovedRows.challenge_number, Basics.each_all, Basics.each-append, Basics.each-map, Differing.account_differs_not}
+use Rattle.model_laws.proofs.{Differing.authorization_differs_not, Differing.order_differs_not, RowLists.ascends_found, RowLists.none_below}
 
 -- ---- one table
 
@@ -34,11 +28,7 @@ each_moved : {X : Type 0} (number : X → ℕ) (test : X → Bool) (move : X →
     ((x : X) → test x ≡ true → IsFound number rows x → Q (move x)) → (xs : List X) → EachOf (IsFound number rows) xs →
     EachOf Q (map move (filter test xs))
 each_moved number test move rows Q f [] h = tt
-each_moved number test move rows Q f (x ∷ xs) h = by (test x) refl (each_moved number test move rows Q f xs h.1)
-  where
-    by : (b : Bool) → test x ≡ b → EachOf Q (map move (filter test xs)) → EachOf Q (map move (cond b (x ∷ filter test xs) (filter test xs)))
-    by true e k = (f x e h.0, k)
-    by false e k = k
+each_moved number test move rows Q f (x ∷ xs) h = grind (arith, (each_moved number test move rows Q f xs h.1))
 
 -- what holds of each row above all others
 each_fresh : {X : Type 0} (number : X → ℕ) (last n : ℕ) (rows : List X) (Q : X → Type 0) →
@@ -67,9 +57,7 @@ each_put number touched differs move last rows fresh Q f g h up =
 -- another row than the one that stands there
 another : {X : Type 0} (number : X → ℕ) (rows : List X) (x y : X) → number y ≡ number x → x ≢ y → IsFound number rows x →
     find (λ z. number z == number y) rows ≢ Some y
-another number rows x y same differs here k =
-    let there : find (λ z. number z == number y) rows ≡ Some x = ap (λ n. find (λ z. number z == n) rows) same ∙ here in
-    differs (ap (λ o. unwrap_or o x) (sym there ∙ k))
+another number rows x y same differs here k = grind arith
 
 -- a row that stands nowhere
 nowhere : {X : Type 0} (number : X → ℕ) (rows : List X) (x : X) → find (λ z. number z == number x) rows ≡ None → find (λ z. number z == number x) rows ≢ Some x
@@ -103,19 +91,12 @@ challenge_numbers e m key (c ∷ cs) = λ i. sym (challenge_number e m key c) i 
 pub each_change : (P : Change → Type 0) (T : Tables) (m : ℕ) (e : Entry) → EachOf (λ n. P (RemoveNonce n)) (spent_by e) →
     EachOf (λ x. P (PutNonce x)) (nonces_put T e m) → EachOf (λ x. P (PutAccount x)) (accounts_put T e m) →
     EachOf (λ x. P (PutAuthorization x)) (authorizations_put T e m) → EachOf (λ x. P (PutOrder x)) (orders_put T e m) → EachOf P (changes m T e)
-each_change P T m e removed nonces accounts authorizations orders =
-    each-append P (map RemoveNonce (spent_by e)) _ (each-map P RemoveNonce (spent_by e) removed)
-    (each-append P (map PutNonce (nonces_put T e m)) _ (each-map P PutNonce (nonces_put T e m) nonces)
-    (each-append P (map PutAccount (accounts_put T e m)) _ (each-map P PutAccount (accounts_put T e m) accounts)
-    (each-append P (map PutAuthorization (authorizations_put T e m)) _ (each-map P PutAuthorization (authorizations_put T e m) authorizations)
-    (each-map P PutOrder (orders_put T e m) orders))))
+each_change P T m e removed nonces accounts authorizations orders = grind (arith, each-append, (each-map P PutAccount (accounts_put T e m) accounts), (each-map P PutAuthorization (authorizations_put T e m) authorizations), (each-map P PutOrder (orders_put T e m) orders))
 
 -- the nonces that an entry puts stand in no row yet
 pub nonces_differ : (T : Tables) (m : ℕ) (e : Entry) (rows : List Nonce) → Below (λ n. n.serial) (T.meta.counters.nonces + 1) rows →
     EachOf (λ x. find (λ n. n.serial == x.serial) rows ≢ Some x) (nonces_put T e m)
-nonces_differ T m e rows below =
-    each_fresh (λ n. n.serial) T.meta.counters.nonces (T.meta.counters.nonces + 1) rows _ (nowhere (λ n. n.serial) rows) (omega arith) below
-    (nonces_put T e m) (issued_up e m (T.meta.counters.nonces + 1))
+nonces_differ T m e rows below = grind (arith, each_fresh, (issued_up e m (T.meta.counters.nonces + 1)))
 
 -- the accounts that it puts are others than those that stand there
 pub accounts_differ : (T : Tables) (m : ℕ) (e : Entry) → IsOrdered T → EachOf (λ x. find (λ a. a.number == x.number) T.accounts ≢ Some x) (accounts_put T e m)
@@ -159,29 +140,13 @@ stay_same : (cs : List ChallengeRow) → StayAnswered cs cs
 stay_same [] = tt
 stay_same (c ∷ cs) = (λ h. h, stay_same cs)
 
--- an answer stands behind another
-answer_stays : (old new : Option Answer) → IsTrue (is_some old) → IsTrue (is_some (earlier old new))
-answer_stays None new h = cc h
-answer_stays (Some a) None h = h
-answer_stays (Some a) (Some b) h = h
-
 -- an entry takes no answer away
 stay_noted : (e : Entry) (m : ℕ) (key : List ℕ) (cs : List ChallengeRow) → StayAnswered cs (map (noted_challenge e m key) cs)
 stay_noted e m key [] = tt
 stay_noted e m key (c ∷ cs) = (one e, stay_noted e m key cs)
   where
     one : (e : Entry) → IsTrue (is_some c.answered) → IsTrue (is_some (noted_challenge e m key c).answered)
-    one (answered n) h = by (n == c.number)
-      where
-        by : (b : Bool) → IsTrue (is_some (cond b (answered_challenge m key c) c).answered)
-        by true = answer_stays c.answered (Some (record { date = m; thumb = thumbprint key })) h
-        by false = h
-    one (reported n outcome) h = by (n == c.number)
-      where
-        by : (b : Bool) → IsTrue (is_some (cond b (reported_challenge outcome m c) c).answered)
-        by true = h
-        by false = h
-    one _ h = h
+    one k h = grind arith
 
 -- what an entry puts keeps the children of what stands there
 pub puts_keep_children : (T : Tables) (m : ℕ) (e : Entry) → IsOrdered T → EachOf (KeepsChildren T) (changes m T e)
@@ -208,24 +173,15 @@ puts_keep_children T m e h =
 pub each_sweep : (P : Change → Type 0) (T : Tables) (m : ℕ) → EachOf (λ n. P (RemoveNonce n)) (nonces_gone m T) →
     EachOf (λ x. P (PutAuthorization x)) (authorizations_expired m T) → EachOf (λ x. P (PutOrder x)) (orders_fallen m T) →
     EachOf P (sweep_changes m T)
-each_sweep P T m removed authorizations orders =
-    each-append P (map RemoveNonce (nonces_gone m T)) _ (each-map P RemoveNonce (nonces_gone m T) removed)
-    (each-append P (map PutAuthorization (authorizations_expired m T)) _ (each-map P PutAuthorization (authorizations_expired m T) authorizations)
-    (each-map P PutOrder (orders_fallen m T) orders))
+each_sweep P T m removed authorizations orders = grind (arith, each-append, (each-map P RemoveNonce (nonces_gone m T) removed), (each-map P PutAuthorization (authorizations_expired m T) authorizations), (each-map P PutOrder (orders_fallen m T) orders))
 
 -- an authorization that expires is another row
 expires : (m : ℕ) (row : AuthorizationRow) → is_overdue m row ≡ true → row ≢ record row { status = authz.Expired }
-expires m row h e =
-    let live : is_live row.status ≡ true = (and_parts (is_live row.status) _ h).0 in
-    let over : is_live row.status ≡ false = ap (λ (r : AuthorizationRow). is_live r.status) e in
-    cc
+expires m row h e = grind arith
 
 -- an order that falls is another row
 fails : (m : ℕ) (rows : List AuthorizationRow) (row : OrderRow) → falls m rows row ≡ true → row ≢ record row { status = order.Invalid }
-fails m rows row h e =
-    let live : is_live_order row.status ≡ true = (and_parts (is_live_order row.status) _ h).0 in
-    let over : is_live_order row.status ≡ false = ap (λ (r : OrderRow). is_live_order r.status) e in
-    cc
+fails m rows row h e = grind arith
 
 -- the authorizations that a sweep puts are others than those that stand there
 pub expired_differ : (T : Tables) (m : ℕ) → IsOrdered T → EachOf (λ x. find (λ a. a.number == x.number) T.authorizations ≢ Some x) (authorizations_expired m T)

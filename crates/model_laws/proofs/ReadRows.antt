@@ -1,21 +1,16 @@
 -- What may follow by a part is what may follow by the whole, where the rows that the test reads are kept.
 use Rattle.std.proofs.Common.{◌≡◌, ℕ, List, [], ◌∷◌, map, refl, ap, true}
-use Rattle.std.specs.Prelude.{◌==◌, ◌&&◌, is_some, is_none, find, bytes_eq}
-use Rattle.std.specs.List.{list_all}
-use Rattle.desk_model.specs.Limits.{longest_certificate, longest_csr, most_names}
-use Rattle.desk_model.specs.{Lookup.holds, Contact.contacts_pass, Account.is_valid as is_valid_account, Tables.Tables, Effect.has_row}
-use Rattle.desk_model.specs.Authorization.{is_live, is_pending}
-use Rattle.desk_model.specs.Order.{is_ready, is_processing}
+use Rattle.std.specs.{Prelude.◌==◌, Prelude.◌&&◌, Prelude.is_some, Prelude.is_none, Prelude.find, Prelude.bytes_eq, List.list_all}
 use Rattle.desk_model.specs.Legal.{is_pending_challenge, is_processing_challenge, has_length, all_different, is_wanted, wanted_name, is_problem}
-use Rattle.desk_model.specs.Kept.{EachOf, Kept, restricted}
-use Rattle.desk_model.specs.Questions.{order_end, serves}
-use Rattle.desk_model.specs.Allowed.{may_on, may_want_on}
-use Rattle.desk_model.specs.declared.{entry.Entry.Entry, entry.Wanted.Wanted, rows.AuthorizationRow.AuthorizationRow}
 use Rattle.desk_model.specs.declared.entry.Entry.TheVariants.{Spent as spent, Opened as opened, ContactsChanged as contacts_changed, KeyChanged as key_changed}
 use Rattle.desk_model.specs.declared.entry.Entry.TheVariants.{AccountEnded as account_ended, Ordered as ordered, Answered as answered, Reported as reported}
 use Rattle.desk_model.specs.declared.entry.Entry.TheVariants.{AuthorizationEnded as authorization_ended, Finalized as finalized, Certified as certified}
 use Rattle.desk_model.specs.declared.entry.Entry.TheVariants.{Failed as failed}
-use Rattle.desk_model.specs.declared.entry.Wanted.TheVariants.{New, Reused}
+use Rattle.desk_model.specs.{Limits.longest_certificate, Limits.longest_csr, Limits.most_names, Lookup.holds, Contact.contacts_pass}
+use Rattle.desk_model.specs.{Account.is_valid as is_valid_account, Tables.Tables, Effect.has_row, Authorization.is_live, Authorization.is_pending}
+use Rattle.desk_model.specs.{Order.is_ready, Order.is_processing, Kept.EachOf, Kept.Kept, Kept.restricted, Questions.order_end, Questions.serves}
+use Rattle.desk_model.specs.{Allowed.may_on, Allowed.may_want_on, declared.entry.Entry.Entry, declared.entry.Wanted.Wanted}
+use Rattle.desk_model.specs.{declared.rows.AuthorizationRow.AuthorizationRow, declared.entry.Wanted.TheVariants.New, declared.entry.Wanted.TheVariants.Reused}
 use Rattle.model_laws.specs.{Parts.ReadsKept, Reused.OfReused}
 use Rattle.model_laws.proofs.Local.{find_kept, find_part}
 

@@ -1,34 +1,27 @@
 -- What is recorded makes the tables of the longer history.
 use Rattle.std.proofs.Common.{length, ◌≡◌, ◌≤◌, ◌<◌, ℕ, ◌+◌, List, [], ◌∷◌, ◌++◌, map, filter, refl, sym, ap, ◌∙◌, true, false, Bool, cond, arith}
+use Rattle.std.proofs.{lemmas.List.length-map, lemmas.Bool.Decides.nat_tests}
 use Rattle.std.specs.List.{flat_map}
-use Rattle.std.proofs.lemmas.List.{length-map}
-use Rattle.desk_model.specs.{Entry.History, Terms.Terms, Legal.EachFollows}
-use Rattle.desk_model.specs.History.{clock, record_all}
-use Rattle.desk_model.specs.Nonce.{nonces, issued_by}
-use Rattle.desk_model.specs.Account.{accounts, opened_by}
-use Rattle.desk_model.specs.Authorization.{authorizations, made_by}
-use Rattle.desk_model.specs.Order.{orders, ordered_by}
-use Rattle.desk_model.specs.Tables.{challenge_row, Tables, account_row, authorization_row, order_row, tables_at, picture}
-use Rattle.desk_model.specs.Derived.{restated_authorization, restated_order}
+use Rattle.desk_model.specs.Tables.{Tables, account_row, authorization_row, order_row, tables_at, picture}
 use Rattle.desk_model.specs.Effect.{noted_account, noted_authorization, noted_order, touches_account, touches_authorization, touches_order, fresh_account}
-use Rattle.desk_model.specs.Effect.{fresh_authorization, fresh_order, not_spent, authorizations_after, effect, effects, lasts, swept, is_overdue, falls}
+use Rattle.desk_model.specs.Effect.{fresh_authorization, fresh_order, not_spent, authorizations_after, effect, lasts, swept, is_overdue, falls}
 use Rattle.desk_model.specs.Change.{moved_rows, account_differs, authorization_differs, order_differs, applied_one, applied, spent_by, nonces_put, accounts_put}
 use Rattle.desk_model.specs.Change.{authorizations_put, orders_put, changes, sweep_changes, all_changes, recorded_changes, nonces_gone, authorizations_expired}
 use Rattle.desk_model.specs.Change.{orders_fallen}
+use Rattle.desk_model.specs.{Entry.History, Terms.Terms, Legal.EachFollows, History.clock, History.record_all, Nonce.nonces, Nonce.issued_by, Account.accounts}
+use Rattle.desk_model.specs.{Account.opened_by, Authorization.authorizations, Authorization.made_by, Order.orders, Order.ordered_by}
+use Rattle.desk_model.specs.{Derived.restated_authorization, Derived.restated_order, declared.entry.Entry.Entry, declared.objects.Authorization.Authorization}
+use Rattle.desk_model.specs.{declared.objects.Nonce.Nonce, declared.entry.Entry.TheVariants.Spent as spent}
+use Rattle.desk_model.specs.declared.rows.Change.TheVariants.{PutNonce, RemoveNonce, PutAccount, PutAuthorization, PutOrder}
+use Rattle.desk_model.specs.declared.rows.{AccountRow.AccountRow, AuthorizationRow.AuthorizationRow, Change.Change, Meta.Meta, OrderRow.OrderRow}
 use Rattle.desk_model.specs.declared.status.OrderStatus.TheVariants as order
 use Rattle.desk_model.specs.declared.status.AuthzStatus.TheVariants as authz
-use Rattle.desk_model.specs.declared.{entry.Entry.Entry, objects.Authorization.Authorization, objects.Nonce.Nonce, rows.AccountRow.AccountRow}
-use Rattle.desk_model.specs.declared.{rows.AuthorizationRow.AuthorizationRow, rows.Change.Change, rows.Meta.Meta, rows.OrderRow.OrderRow}
-use Rattle.desk_model.specs.declared.entry.Entry.TheVariants.{Issued as issued, Spent as spent, Opened as opened, Ordered as ordered}
-use Rattle.desk_model.specs.declared.rows.Change.TheVariants.{PutMeta, PutNonce, RemoveNonce, PutAccount, PutAuthorization, PutOrder}
-use Rattle.model_laws.proofs.Basics.{numbered-append, IsNumbered}
-use Rattle.model_laws.specs.Ordered.{Ascends, Below, IsTable, IsOrdered}
-use Rattle.model_laws.specs.Placing.{puts, removes}
 use Rattle.model_laws.proofs.RowLists.{numbered_ascends, ascends_map, ascends_filter, puts_moved, puts_differing, puts_last, puts_append, removes_filter}
-use Rattle.model_laws.proofs.OrderFacts.{authorizations_numbered, made_by_numbered}
 use Rattle.model_laws.proofs.Numbers.{AreNumbered, challenges_count, nonces_numbered, accounts_numbered, orders_numbered}
 use Rattle.model_laws.proofs.Differing.{account_unmoved, authorization_unmoved, order_unmoved}
 use Rattle.model_laws.proofs.Step.{clock_after, follows_before, picture_more, step, sweep}
+use Rattle.model_laws.proofs.{Basics.numbered-append, Basics.IsNumbered, OrderFacts.authorizations_numbered, OrderFacts.made_by_numbered}
+use Rattle.model_laws.specs.{Ordered.Ascends, Ordered.Below, Ordered.IsTable, Ordered.IsOrdered, Placing.puts, Placing.removes}
 
 -- ---- changes of one table in a row
 
@@ -83,11 +76,7 @@ below_map number other f same k (x ∷ xs) h =
 -- what is left is below
 pub below_filter : {X : Type 0} (number : X → ℕ) (p : X → Bool) (k : ℕ) (xs : List X) → Below number k xs → Below number k (filter p xs)
 below_filter number p k [] h = tt
-below_filter number p k (x ∷ xs) h = by (p x) (below_filter number p k xs h.1)
-  where
-    by : (b : Bool) → Below number k (filter p xs) → Below number k (cond b (x ∷ filter p xs) (filter p xs))
-    by true g = (h.0, g)
-    by false g = g
+below_filter number p k (x ∷ xs) h = grind (arith, (below_filter number p k xs h.1))
 
 -- the tables of a history stand by number
 pub tables_ordered : (F : History) (t : ℕ) → IsOrdered (tables_at F t)
@@ -125,11 +114,7 @@ numbered_map number other f same n (x ∷ xs) h = (same x ∙ h.0, numbered_map 
 challenges_in_rows : (F : History) (t n : ℕ) (xs : List Authorization) → AreNumbered n xs →
     IsNumbered (λ c. c.number) n (flat_map (λ (a : AuthorizationRow). a.challenges) (map (authorization_row F t) xs))
 challenges_in_rows F t n [] h = tt
-challenges_in_rows F t n (a ∷ xs) h =
-    numbered-append (λ c. c.number) n (map (challenge_row F a.account) a.challenges) _ (n + length a.challenges)
-    (let e = length-map a.challenges (challenge_row F a.account) in omega arith)
-    (numbered_map (λ c. c.number) (λ c. c.number) (challenge_row F a.account) (λ c. refl) n a.challenges h.0)
-    (challenges_in_rows F t (n + length a.challenges) xs h.1)
+challenges_in_rows F t n (a ∷ xs) h = grind (arith, numbered-append, length-map, numbered_map, (challenges_in_rows F t (n + length a.challenges) xs h.1))
 
 -- the challenges of a history stand by number
 pub challenges_ordered : (F : History) (t : ℕ) → Ascends (λ c. c.number) 1 (flat_map (λ (a : AuthorizationRow). a.challenges) (tables_at F t).authorizations)
@@ -140,11 +125,7 @@ challenges_ordered F t = numbered_ascends (λ c. c.number) 1 _ (challenges_in_ro
 -- moving some rows keeps their numbers
 picked_same : {X : Type 0} (number : X → ℕ) (test : X → Bool) (move : X → X) → ((x : X) → number (move x) ≡ number x) → (x : X) →
     number (cond (test x) (move x) x) ≡ number x
-picked_same number test move same x = by (test x)
-  where
-    by : (b : Bool) → number (cond b (move x) x) ≡ number x
-    by true = same x
-    by false = refl
+picked_same number test move same x = grind arith
 
 -- moved rows that differ, then new ones, all put
 puts_all : {X : Type 0} (number : X → ℕ) (touched : X → Bool) (differs : X → X → Bool) (move : X → X) →
@@ -152,35 +133,26 @@ puts_all : {X : Type 0} (number : X → ℕ) (touched : X → Bool) (differs : X
     ((x : X) → differs x (move x) ≡ false → move x ≡ x) → (last : ℕ) (rows fresh : List X) → IsTable number last rows →
     Ascends number (last + 1) fresh →
     puts number (moved_rows touched differs move rows ++ fresh) rows ≡ map (λ r. cond (touched r) (move r) r) rows ++ fresh
-puts_all number touched differs move same unmoved last rows fresh h up =
-    puts_append number (moved_rows touched differs move rows) fresh rows
-    ∙ ap (puts number fresh) (puts_differing number touched differs move same unmoved 1 rows h.0)
-    ∙ puts_last number (last + 1) fresh (map (λ r. cond (touched r) (move r) r) rows) up
-    (below_map number number (λ r. cond (touched r) (move r) r) (picked_same number touched move same) (last + 1) rows h.1)
+puts_all number touched differs move same unmoved last rows fresh h up = grind (arith, nat_tests, puts_append, puts_differing, puts_last, below_map, picked_same, (puts_append number (moved_rows touched differs move rows) fresh rows), (puts_last number (last + 1) fresh (map (λ r. cond (touched r) (move r) r) rows) up (below_map number number (λ r. cond (touched r) (move r) r) (picked_same number touched move same) (last + 1) rows h.1)), (puts_differing number touched differs move same unmoved 1 rows h.0), (picked_same number touched move same))
 
 -- ---- the new rows ascend
 
 -- a new nonce's serial goes on counting
 pub issued_up : (e : Entry) (m n : ℕ) → Ascends (λ x. x.serial) n (issued_by e m n)
-issued_up (issued r) m n = (omega arith, tt)
-issued_up _ m n = tt
+issued_up e m n = grind arith
 
 -- and a new account's number
 pub opened_up : (e : Entry) (m n : ℕ) → Ascends (λ x. x.number) n (map fresh_account (opened_by e m n))
-opened_up (opened k cs) m n = (omega arith, tt)
-opened_up _ m n = tt
+opened_up e m n = grind arith
 
 -- and a new order's
 pub ordered_up : (e : Entry) (m : ℕ) (t : Terms) (first n : ℕ) (rows : List AuthorizationRow) →
     Ascends (λ x. x.number) n (map (λ o. restated_order m rows (fresh_order o)) (ordered_by e m t first n))
-ordered_up (ordered k ws) m t first n rows = (omega arith, tt)
-ordered_up _ m t first n rows = tt
+ordered_up e m t first n rows = grind arith
 
 -- and those of new authorizations
 pub made_up : (e : Entry) (m life n c : ℕ) → Ascends (λ x. x.number) n (map (λ a. restated_authorization m (fresh_authorization a)) (made_by e m life n c))
-made_up e m life n c =
-    ascends_map (λ a. a.number) (λ x. x.number) (λ a. restated_authorization m (fresh_authorization a)) (λ a. refl) n (made_by e m life n c)
-    (numbered_ascends (λ a. a.number) n (made_by e m life n c) (made_by_numbered e m life n c))
+made_up e m life n c = grind (arith, ascends_map, numbered_ascends, (made_by_numbered e m life n c))
 
 -- removing the spent nonce
 spent_removed : (e : Entry) (rows : List Nonce) → removes (λ n. n.serial) (spent_by e) rows ≡ filter (not_spent e) rows
@@ -269,16 +241,4 @@ entries_make F m (e ∷ es) M h =
 -- what is recorded makes the picture of the longer history
 pub recorded : (F : History) (e : Entry) (es : List Entry) (m : ℕ) → clock F ≤ m → EachFollows (record_all m (e ∷ es) F) →
     applied (recorded_changes m (picture F) (e ∷ es)) (picture F) ≡ picture (record_all m (e ∷ es) F)
-recorded F e es m le h =
-    let P : Tables = picture F in
-    let G : History = record_all m (e ∷ es) F in
-    let M : Meta = (effects m (swept m P) (e ∷ es)).meta in
-    let now : swept m P ≡ tables_at F m = sym (sweep F (clock F) m le) in
-    let grown : picture G ≡ effects m (swept m P) (e ∷ es) = picture_more F e es m le h in
-    let here : tables_at G m ≡ picture G = ap (tables_at G) (sym (clock_after m es (record { date = m; entry = e } ∷ F) (omega arith))) in
-    applied-append (sweep_changes m P) _ P
-    ∙ ap (applied (all_changes m (swept m P) (e ∷ es) ++ PutMeta M ∷ [])) (sweep_makes P m P.meta (tables_ordered F (clock F)))
-    ∙ applied-append (all_changes m (swept m P) (e ∷ es)) (PutMeta M ∷ []) (record (swept m P) { meta = P.meta })
-    ∙ (λ i. record (applied (all_changes m (now i) (e ∷ es)) (record (now i) { meta = P.meta })) { meta = M })
-    ∙ ap (λ (T : Tables). record T { meta = M }) (entries_make F m (e ∷ es) P.meta h)
-    ∙ (λ i. record (here i) { meta = sym (ap (λ (T : Tables). T.meta) grown) i })
+recorded F e es m le h = grind (arith, nat_tests, sweep, picture_more, clock_after, applied-append, sweep_makes, tables_ordered, entries_make, (picture_more F e es m le h), (sweep_makes (picture F) m (picture F).meta (tables_ordered F (clock F))), (tables_ordered F (clock F)), (sweep F (clock F) m le), (entries_make F m (e ∷ es) (picture F).meta h), (clock_after m es (record { date = m; entry = e } ∷ F) (omega arith)))

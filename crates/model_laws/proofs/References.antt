@@ -1,16 +1,12 @@
 -- Authorizations and orders are of accounts that were opened.
-use Rattle.std.proofs.Common.{◌≡◌, ℕ, ◌+◌, List, [], ◌∷◌, length, true}
+use Rattle.std.proofs.Common.{◌≡◌, ℕ, ◌+◌, List, [], ◌∷◌, length, true, arith}
 use Rattle.std.specs.Prelude.{◌==◌, IsSome}
 use Rattle.desk_model.specs.Account.{account_by_number, account_status, accounts, is_valid, opened_by}
 use Rattle.desk_model.specs.Authorization.{authorizations, count_challenges, made_by, made_for}
-use Rattle.desk_model.specs.{Entry.History, History.terms, Kept.EachOf}
-use Rattle.desk_model.specs.Legal.{EachFollows, may_follow}
-use Rattle.desk_model.specs.Order.{ordered_by, orders}
-use Rattle.desk_model.specs.declared.entry.{Dated.Dated, Entry.Entry, Entry.TheVariants.Ordered as ordered, Wanted.Wanted}
-use Rattle.desk_model.specs.declared.entry.Wanted.TheVariants.{New, Reused}
-use Rattle.model_laws.proofs.Basics.{each, each-append, still_some, there}
-use Rattle.model_laws.proofs.NewOrders.{may_be_ordered}
-use Rattle.model_laws.proofs.Numbers.{made_now, ordered_now}
+use Rattle.desk_model.specs.{Entry.History, History.terms, Kept.EachOf, Legal.EachFollows, Legal.may_follow, Order.orders, declared.entry.Dated.Dated}
+use Rattle.desk_model.specs.{declared.entry.Entry.Entry, declared.entry.Entry.TheVariants.Ordered as ordered, declared.entry.Wanted.Wanted}
+use Rattle.desk_model.specs.{declared.entry.Wanted.TheVariants.New, declared.entry.Wanted.TheVariants.Reused}
+use Rattle.model_laws.proofs.{Basics.each, Basics.each-append, Basics.still_some, Basics.there, NewOrders.may_be_ordered, Numbers.made_now}
 
 -- the number is that of an account
 abbrev pub HasAccount : History → ℕ → Type 0
@@ -47,11 +43,4 @@ authorizations_have_accounts (e ∷ F) h =
 -- and each order
 pub orders_have_accounts : (F : History) → EachFollows F → EachOf (λ o. HasAccount F o.account) (orders F)
 orders_have_accounts [] h = tt
-orders_have_accounts (e ∷ F) h =
-    each-append _ (orders F) (ordered_now e F)
-    (each _ _ (orders F) (λ o. stays e F o.account) (orders_have_accounts F h.1)) (more e.entry h.0.allowed)
-  where
-    more : (entry : Entry) → may_follow F entry e.date ≡ true →
-        EachOf (λ o. HasAccount (e ∷ F) o.account) (ordered_by entry e.date (terms F) (length (authorizations F) + 1) (length (orders F) + 1))
-    more (ordered k ws) may = (stays e F k (orders_for F k e.date ws may), tt)
-    more _ may = tt
+orders_have_accounts (e ∷ F) h = grind (arith, each-append, each, stays, (orders_have_accounts F h.1))

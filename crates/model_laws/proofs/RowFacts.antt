@@ -1,37 +1,26 @@
 -- What an entry does to a row that is there.
-use Rattle.std.proofs.Common.{◌≡◌, ◌≤◌, ◌<◌, ℕ, List, [], ◌∷◌, map, Option, Some, None, refl, sym, ap, ◌∙◌, true, false, Bool, cond, arith, ltb, leb}
-use Rattle.std.specs.Prelude.{nat_lt, ◌==◌, ◌&&◌, ◌||◌, find, is_some}
-use Rattle.std.specs.{Option.option_map, List.list_any}
-use Rattle.std.proofs.lemmas.Bool.{leb-true, le-leb, ltb-true, lt-ltb, eqb-true, and_parts, or_parts}
-use Rattle.std.proofs.Math.Bool.{or-false}
-use Rattle.desk_model.specs.{Entry.History, Lookup.holds, Keys.thumbprint, Kept.EachOf}
-use Rattle.desk_model.specs.History.{clock, first, earlier}
-use Rattle.desk_model.specs.Account.{account_key, accounts, key_if}
-use Rattle.desk_model.specs.Authorization.{ends, in_time, authorization_end, authorization_status, authorization_status_by, ends_by, when_proved, proving}
-use Rattle.desk_model.specs.Authorization.{answer, answer_by, answering, reporting, when_answered, report, challenge_status, challenge_status_by, is_good}
-use Rattle.desk_model.specs.Authorization.{has_challenge, status_of, kind_of, is_live}
-use Rattle.desk_model.specs.Legal.{may_follow, is_processing_challenge, EachFollows}
-use Rattle.desk_model.specs.Tables.{account_row, authorization_row, challenge_row, row_of_challenge}
-use Rattle.desk_model.specs.Derived.{is_proved, restated_authorization}
-use Rattle.desk_model.specs.Effect.{key_in, key_numbered, noted_challenge, answered_challenge, reported_challenge, noted_authorization, row_ends, has_row}
-use Rattle.desk_model.specs.Effect.{touches_authorization, moved_authorization, is_overdue, swept_authorization}
-use Rattle.desk_model.specs.declared.status.EndKind.TheVariants as kind
+use Rattle.std.proofs.Common.{◌≡◌, ◌≤◌, ◌<◌, ℕ, List, [], ◌∷◌, map, Option, Some, None, refl, sym, ap, ◌∙◌, true, false, Bool, cond, arith, ltb}
+use Rattle.std.proofs.{lemmas.Bool.ltb-true, lemmas.Bool.lt-ltb, lemmas.Bool.and_parts, lemmas.Bool.or_parts, lemmas.Bool.Decides.nat_tests}
+use Rattle.std.specs.{Prelude.◌==◌, Prelude.◌||◌, Prelude.is_some, List.list_any}
+use Rattle.desk_model.specs.Authorization.{ends, in_time, authorization_end, authorization_status, ends_by, when_proved, proving, answer, answer_by, answering}
+use Rattle.desk_model.specs.Authorization.{reporting, when_answered, report, challenge_status, is_good, has_challenge}
+use Rattle.desk_model.specs.Effect.{key_numbered, noted_challenge, noted_authorization, row_ends, has_row, touches_authorization, moved_authorization}
+use Rattle.desk_model.specs.Effect.{is_overdue, swept_authorization}
+use Rattle.desk_model.specs.{Entry.History, Lookup.holds, Kept.EachOf, History.clock, History.first, History.earlier, Account.account_key, Account.accounts}
+use Rattle.desk_model.specs.{Legal.may_follow, Legal.is_processing_challenge, Legal.EachFollows, Tables.account_row, Tables.authorization_row}
+use Rattle.desk_model.specs.{Tables.challenge_row, Derived.restated_authorization, declared.entry.Outcome.Outcome, declared.objects.Authorization.Authorization}
+use Rattle.desk_model.specs.{declared.objects.AuthorizationEnd.AuthorizationEnd, declared.objects.Challenge.Challenge, declared.objects.Report.Report}
+use Rattle.desk_model.specs.{declared.rows.AccountRow.AccountRow, declared.rows.AuthorizationRow.AuthorizationRow, declared.rows.ChallengeRow.ChallengeRow}
+use Rattle.desk_model.specs.declared.entry.Entry.{Entry, TheVariants.AccountEnded as account_ended, TheVariants.Answered as answered}
+use Rattle.desk_model.specs.declared.entry.Entry.{TheVariants.Reported as reported, TheVariants.AuthorizationEnded as authorization_ended}
 use Rattle.desk_model.specs.declared.status.AuthzStatus.TheVariants as authz
-use Rattle.desk_model.specs.declared.status.ChallengeStatus.TheVariants as chall
-use Rattle.desk_model.specs.declared.{entry.Entry.Entry, entry.Outcome.Outcome, objects.Account.Account, objects.Answer.Answer}
-use Rattle.desk_model.specs.declared.{objects.Authorization.Authorization, objects.AuthorizationEnd.AuthorizationEnd, objects.Challenge.Challenge}
-use Rattle.desk_model.specs.declared.{status.EndKind.EndKind, objects.Report.Report, rows.AccountRow.AccountRow, rows.AuthorizationRow.AuthorizationRow}
-use Rattle.desk_model.specs.declared.{rows.ChallengeRow.ChallengeRow}
-use Rattle.desk_model.specs.declared.entry.Entry.TheVariants.{AccountEnded as account_ended, Answered as answered, Reported as reported}
-use Rattle.desk_model.specs.declared.entry.Entry.TheVariants.{AuthorizationEnded as authorization_ended}
-use Rattle.model_laws.proofs.Basics.{earlier-some, none_earlier, is_some-earlier, list_any-map, list_any-same, any_or, each, each_all, find-map, map-moved}
+use Rattle.model_laws.proofs.Basics.{is_some-earlier, list_any-map, list_any-same, any_or, each, each_all, find-map, map-moved}
 
 -- ---- challenges
 
 -- an answer is one under each key
 answer_some : (key : List ℕ) (o : Option ℕ) → is_some (answer_by key o) ≡ is_some o
-answer_some key None = refl
-answer_some key (Some date) = refl
+answer_some key o = grind arith
 
 -- an answer stands where the challenge was answered
 pub answered_alike : (account n : ℕ) (F : History) → is_some (answer account n F) ≡ is_some (when_answered n F)
@@ -44,49 +33,11 @@ answered_alike account n (e ∷ F) =
 -- the row of a challenge after an entry
 challenge_moves : (F : History) (e : Entry) (m account : ℕ) (c : Challenge) →
     challenge_row (record { date = m; entry = e } ∷ F) account c ≡ noted_challenge e m (account_key account F) (challenge_row F account c)
-challenge_moves F (answered n) m account c = by (n == c.number)
-  where
-    key : List ℕ
-    key = account_key account F
-
-    given : Answer
-    given = record { date = m; thumb = thumbprint key }
-
-    both : is_some (earlier (when_answered c.number F) (Some m)) ≡ is_some (earlier (answer account c.number F) (Some given))
-    both =
-        is_some-earlier (when_answered c.number F) (Some m)
-        ∙ ap (λ b. b || true) (sym (answered_alike account c.number F))
-        ∙ sym (is_some-earlier (answer account c.number F) (Some given))
-
-    by : (b : Bool) →
-        row_of_challenge c (earlier (answer account c.number F) (answer_by key (cond b (Some m) None))) (report c.number F)
-        (challenge_status_by (report c.number F) (is_some (earlier (when_answered c.number F) (cond b (Some m) None))))
-        ≡ cond b (answered_challenge m key (challenge_row F account c)) (challenge_row F account c)
-    by true =
-        λ i. record (challenge_row F account c) {
-          answered = earlier (answer account c.number F) (Some given);
-          status = challenge_status_by (report c.number F) (both i);
-        }
-    by false = refl
-challenge_moves F (reported n o) m account c = by (n == c.number)
-  where
-    by : (b : Bool) → (let r : Option Report = earlier (report c.number F) (cond b (Some (record { date = m; outcome = o })) None) in
-        row_of_challenge c (answer account c.number F) r (challenge_status_by r (is_some (when_answered c.number F)))
-        ≡ cond b (reported_challenge o m (challenge_row F account c)) (challenge_row F account c))
-    by true =
-        let r : Option Report = earlier (report c.number F) (Some (record { date = m; outcome = o })) in
-        λ i. record (challenge_row F account c) { reported = r; status = challenge_status_by r (sym (answered_alike account c.number F) i) }
-    by false = refl
-challenge_moves F _ m account c = refl
+challenge_moves F e m account c = grind arith
 
 -- the key in an account's row is the one that the account has
 pub key_row : (n : ℕ) (F : History) → key_numbered n (map (account_row F) (accounts F)) ≡ account_key n F
-key_row n F =
-    ap key_in (find-map (λ (a : AccountRow). a.number == n) (account_row F) (accounts F)) ∙ by (find (λ a. a.number == n) (accounts F))
-  where
-    by : (o : Option Account) → key_in (option_map (account_row F) o) ≡ key_if o F
-    by None = refl
-    by (Some a) = refl
+key_row n F = grind (arith, find-map)
 
 -- ---- the end of an authorization
 
@@ -98,29 +49,6 @@ has_row-row n F t a = list_any-map (λ c. n == c.number) (challenge_row F a.acco
 row_ends-row : (F : History) (t : ℕ) (a : Authorization) (e : Entry) (m : ℕ) → row_ends (authorization_row F t a) e m ≡ ends a e m
 row_ends-row F t a e m = λ i. ends_by a.number a.account (λ n. has_row-row n F t a i) e m
 
--- an end has its entry's date
-end_if : (b : Bool) (m : ℕ) (s : EndKind) (x : AuthorizationEnd) →
-    cond {A = Option AuthorizationEnd} b (Some (record { date = m; kind = s })) None ≡ Some x → x.date ≡ m
-end_if true m s x k =
-    let y : AuthorizationEnd = record { date = m; kind = s } in
-    let same : y ≡ x = cc in
-    sym (ap (λ (z : AuthorizationEnd). z.date) same)
-end_if false m s x k = cc
-
--- and so for all kinds
-end_at : (a : Authorization) (e : Entry) (m : ℕ) (x : AuthorizationEnd) → ends a e m ≡ Some x → x.date ≡ m
-end_at a (reported n o) m x h = by (is_good o) h
-  where
-    by : (b : Bool) →
-        cond {A = Option AuthorizationEnd} b None
-        (cond {A = Option AuthorizationEnd} (has_challenge n a) (Some (record { date = m; kind = kind.Invalid })) None) ≡ Some x →
-        x.date ≡ m
-    by true k = cc
-    by false k = end_if (has_challenge n a) m kind.Invalid x k
-end_at a (authorization_ended n s) m x h = end_if (n == a.number) m (kind_of s) x h
-end_at a (account_ended n s) m x h = end_if (n == a.account) m (kind_of s) x h
-end_at a _ m x h = cc
-
 -- the first end of an authorization, in time or not
 abbrev first_end : Authorization → History → Option AuthorizationEnd
 first_end a F = first (λ e. ends a e.entry e.date) F
@@ -128,35 +56,12 @@ first_end a F = first (λ e. ends a e.entry e.date) F
 -- the first end is no later than the clock
 end_by : (a : Authorization) (F : History) (x : AuthorizationEnd) → first_end a F ≡ Some x → x.date ≤ clock F
 end_by a [] x h = cc
-end_by a (e ∷ F) x h = by (end_by a F x) (first_end a F) refl (ends a e.entry e.date) refl h
-  where
-    by : (first_end a F ≡ Some x → x.date ≤ clock F) → (o : Option AuthorizationEnd) → first_end a F ≡ o → (p : Option AuthorizationEnd) →
-        ends a e.entry e.date ≡ p
-        → earlier o p ≡ Some x → x.date ≤ clock (e ∷ F)
-    by ih (Some y) q p r k = let below : x.date ≤ clock F = ih (q ∙ (sym (earlier-some y p) ∙ k)) in omega arith
-    by ih None q p r k = let dated : x.date ≡ e.date = end_at a e.entry e.date x (r ∙ sym (none_earlier p) ∙ k) in omega arith
+end_by a (e ∷ F) x h = grind (arith, (end_by a F x))
 
 -- the end that counts, after one more entry that is no earlier
 end_moves : (a : Authorization) (F : History) (e : Entry) (m : ℕ) → clock F ≤ m →
     authorization_end a (record { date = m; entry = e } ∷ F) ≡ earlier (authorization_end a F) (in_time a.expires (ends a e m))
-end_moves a F e m le = by (first (λ d. ends a d.entry d.date) F) refl (ends a e m) refl
-  where
-    late : (x y : AuthorizationEnd) (b c : Bool) → leb x.date a.expires ≡ b → leb y.date a.expires ≡ c → x.date ≤ y.date →
-        cond {A = Option AuthorizationEnd} b (Some x) None ≡ earlier (cond {A = Option AuthorizationEnd} b (Some x) None)
-        (cond {A = Option AuthorizationEnd} c (Some y) None)
-    late x y true c p q h = sym (earlier-some x _)
-    late x y false true p q h =
-        let low : y.date ≤ a.expires = leb-true y.date a.expires q in
-        let fine : leb x.date a.expires ≡ true = le-leb x.date a.expires (omega arith) in cc
-    late x y false false p q h = refl
-
-    by : (o : Option AuthorizationEnd) → first (λ d. ends a d.entry d.date) F ≡ o → (p : Option AuthorizationEnd) → ends a e m ≡ p →
-        in_time a.expires (earlier o p) ≡ earlier (in_time a.expires o) (in_time a.expires p)
-    by None q p r = ap (in_time a.expires) (none_earlier p) ∙ sym (none_earlier (in_time a.expires p))
-    by (Some x) q None r = refl
-    by (Some x) q (Some y) r =
-        late x y (leb x.date a.expires) (leb y.date a.expires) refl refl
-        (let early : x.date ≤ clock F = end_by a F x q in let now : y.date ≡ m = end_at a e m y r in omega arith)
+end_moves a F e m le = grind (arith, end_by)
 
 -- ---- a good report
 
@@ -166,26 +71,13 @@ is_good_report r = holds (λ r. is_good r.outcome) r
 
 -- a challenge that is processing has no report
 pub processing_unreported : (n : ℕ) (F : History) → is_processing_challenge (challenge_status n F) ≡ true → report n F ≡ None
-processing_unreported n F h = by (report n F) (is_some (when_answered n F)) h
-  where
-    by : (r : Option Report) (d : Bool) → is_processing_challenge (challenge_status_by r d) ≡ true → r ≡ None
-    by None d k = refl
-    by (Some r) d k = other (is_good r.outcome) k
-      where
-        other : (b : Bool) → is_processing_challenge (cond b chall.Valid chall.Invalid) ≡ true → Some r ≡ None
-        other true k = cc
-        other false k = cc
+processing_unreported n F h = grind arith
 
 -- a report on a challenge that had none
 good_on : (n : ℕ) (o : Outcome) (m : ℕ) (F : History) → report n F ≡ None → (c : Challenge) →
     is_good_report (earlier (report c.number F) (reporting c.number (reported n o) m))
     ≡ (is_good_report (report c.number F) || is_good_report (reporting c.number (reported n o) m))
-good_on n o m F none c = by (n == c.number) refl
-  where
-    by : (b : Bool) → (n == c.number) ≡ b → (let r : Option Report = cond b (Some (record { date = m; outcome = o })) None in
-        is_good_report (earlier (report c.number F) r) ≡ (is_good_report (report c.number F) || is_good_report r))
-    by true e = let same : n ≡ c.number = eqb-true n c.number e in let here : report c.number F ≡ None = rw (← same) none in rw here refl
-    by false e = sym (or-false _)
+good_on n o m F none c = grind arith
 
 -- an entry proves an authorization where it reports well on one of its challenges
 proving_any : (a : Authorization) (n : ℕ) (o : Outcome) (m : ℕ) →
@@ -193,18 +85,14 @@ proving_any : (a : Authorization) (n : ℕ) (o : Outcome) (m : ℕ) →
 proving_any a n o m = by (is_good o) refl
   where
     each_one : (b c : Bool) → is_good o ≡ b → is_good_report (cond c (Some (record { date = m; outcome = o })) None) ≡ cond b c false
-    each_one true true e = e
-    each_one true false e = refl
-    each_one false true e = e
-    each_one false false e = refl
+    each_one k l h = grind arith
 
     nowhere : (cs : List Challenge) → list_any (λ (c : Challenge). false) cs ≡ false
     nowhere [] = refl
     nowhere (c ∷ cs) = nowhere cs
 
     chosen : (b : Bool) → is_some (cond {A = Option ℕ} b (Some m) None) ≡ b
-    chosen true = refl
-    chosen false = refl
+    chosen g = grind arith
 
     by : (b : Bool) → is_good o ≡ b →
         is_some (cond {A = Option ℕ} b (cond {A = Option ℕ} (has_challenge n a) (Some m) None) None)
@@ -238,10 +126,7 @@ proved_by a (e ∷ F) each = by e.entry e.date each.0.allowed (proved_by a F eac
 -- the status that a history gives is the one that the row ought to have
 pub authorization_stated : (F : History) → EachFollows F → (t u : ℕ) (a : Authorization) →
     authorization_row F t a ≡ restated_authorization t (authorization_row F u a)
-authorization_stated F each t u a =
-    let same : is_some (when_proved a F) ≡ is_proved (authorization_row F u a) =
-    proved_by a F each ∙ sym (list_any-map (λ c. holds (λ r. is_good r.outcome) c.reported) (challenge_row F a.account) a.challenges) in
-    λ i. record (authorization_row F t a) { status = authorization_status_by (authorization_end a F) (nat_lt a.expires t) (same i) }
+authorization_stated F each t u a = grind (arith, proved_by, list_any-map)
 
 -- the row of an authorization after an entry, in general
 pub authorization_noted : (F : History) (e : Entry) (m t : ℕ) (a : Authorization) → EachFollows (record { date = m; entry = e } ∷ F) → clock F ≤ m →
@@ -277,44 +162,16 @@ other_challenges e m key cs f = kept_challenges (noted_challenge e m key) cs (ea
 -- an authorization that the entry does not touch keeps its columns
 pub authorization_untouched : (e : Entry) (m : ℕ) (accounts : List AccountRow) (row : AuthorizationRow) → touches_authorization e row ≡ false →
     noted_authorization e m accounts row ≡ row
-authorization_untouched (answered n) m accounts row h =
-    let key : List ℕ = key_numbered row.account accounts in
-    let kept : map (noted_challenge (answered n) m key) row.challenges ≡ row.challenges =
-    kept_challenges _ row.challenges (each _ _ row.challenges (λ c k. ap (λ b. cond b (answered_challenge m key c) c) k) (has_none n row.challenges h)) in
-    λ i. record row { challenges = kept i }
-authorization_untouched (reported n o) m accounts row h =
-    let kept : map (noted_challenge (reported n o) m (key_numbered row.account accounts)) row.challenges ≡ row.challenges =
-    kept_challenges _ row.challenges
-    (each _ _ row.challenges (λ c k. ap (λ b. cond b (reported_challenge o m c) c) k) (has_none n row.challenges h)) in
-    let end : row_ends row (reported n o) m ≡ None =
-    ap (λ b. cond {A = Option AuthorizationEnd} (is_good o) None
-    (cond {A = Option AuthorizationEnd} b (Some (record { date = m; kind = kind.Invalid })) None)) h
-    ∙ either (is_good o) in
-    λ i. record row { challenges = kept i; ended = earlier row.ended (in_time row.expires (end i)) }
-  where
-    either : (b : Bool) → cond {A = Option AuthorizationEnd} b None None ≡ None
-    either true = refl
-    either false = refl
-authorization_untouched (authorization_ended n s) m accounts row h =
-    let end : row_ends row (authorization_ended n s) m ≡ None =
-    ap (λ b. cond {A = Option AuthorizationEnd} b (Some (record { date = m; kind = kind_of s })) None) h in
-    let kept = other_challenges (authorization_ended n s) m (key_numbered row.account accounts) row.challenges (λ c. refl) in
-    λ i. record row { challenges = kept i; ended = earlier row.ended (in_time row.expires (end i)) }
-authorization_untouched (account_ended n s) m accounts row h =
-    let end : row_ends row (account_ended n s) m ≡ None =
-    ap (λ b. cond {A = Option AuthorizationEnd} b (Some (record { date = m; kind = kind_of s })) None) h in
-    let kept = other_challenges (account_ended n s) m (key_numbered row.account accounts) row.challenges (λ c. refl) in
-    λ i. record row { challenges = kept i; ended = earlier row.ended (in_time row.expires (end i)) }
-authorization_untouched e m accounts row h =
-    let kept = other_challenges e m (key_numbered row.account accounts) row.challenges (λ c. refl) in λ i. record row { challenges = kept i }
+authorization_untouched (answered n) m accounts row h = grind (arith, kept_challenges, each, (has_none n row.challenges h))
+authorization_untouched (reported n o) m accounts row h = grind (arith, kept_challenges, each, (has_none n row.challenges h))
+authorization_untouched (authorization_ended n s) m accounts row h = grind (arith, other_challenges)
+authorization_untouched (account_ended n s) m accounts row h = grind (arith, other_challenges)
+authorization_untouched e m accounts row h = grind (arith, other_challenges)
 
 -- and its row
 pub authorization_kept : (F : History) (e : Entry) (m : ℕ) (a : Authorization) → EachFollows (record { date = m; entry = e } ∷ F) → clock F ≤ m →
     touches_authorization e (authorization_row F m a) ≡ false → authorization_row (record { date = m; entry = e } ∷ F) m a ≡ authorization_row F m a
-authorization_kept F e m a each le h =
-    authorization_noted F e m m a each le
-    ∙ ap (restated_authorization m) (authorization_untouched e m (map (account_row F) (accounts F)) (authorization_row F m a) h)
-    ∙ sym (authorization_stated F each.1 m m a)
+authorization_kept F e m a each le h = grind (arith, nat_tests, authorization_noted, each, authorization_untouched, authorization_stated, (authorization_noted F e m m a each le), (authorization_untouched e m (map (account_row F) (accounts F)) (authorization_row F m a) h), (authorization_stated F each.1 m m a))
 
 -- the row of an authorization after an entry
 pub authorization_moves : (F : History) (e : Entry) (m : ℕ) (a : Authorization) → EachFollows (record { date = m; entry = e } ∷ F) → clock F ≤ m →
@@ -333,35 +190,11 @@ authorization_moves F e m a each le = by (touches_authorization e (authorization
 pub past_later : (x t m : ℕ) → t ≤ m → ltb x t ≡ true → ltb x m ≡ true
 past_later x t m le h = let past : x < t = ltb-true x t h in lt-ltb x m (omega arith)
 
--- an end leaves nothing to prove
-ended_over : (k : EndKind) → is_live (status_of k) ≡ false
-ended_over kind.Invalid = refl
-ended_over _ = refl
-
--- an authorization's status at a later moment
-swept_status : (o : Option AuthorizationEnd) (past later proved : Bool) → (past ≡ true → later ≡ true) →
-    authorization_status_by o later proved ≡ cond (is_live (authorization_status_by o past proved) && later) authz.Expired
-    (authorization_status_by o past proved)
-swept_status (Some x) past later proved more = rw (ended_over x.kind) refl
-swept_status None true true proved more = refl
-swept_status None true false proved more = let no : false ≡ true = more refl in cc
-swept_status None false true true more = refl
-swept_status None false true false more = refl
-swept_status None false false true more = refl
-swept_status None false false false more = refl
-
 -- an authorization's status at a later moment
 pub authorization_later : (F : History) (t m : ℕ) (a : Authorization) → t ≤ m →
     authorization_status a F m ≡ cond (is_overdue m (authorization_row F t a)) authz.Expired (authorization_status a F t)
-authorization_later F t m a le =
-    swept_status (authorization_end a F) (nat_lt a.expires t) (nat_lt a.expires m) (is_some (when_proved a F)) (past_later a.expires t m le)
+authorization_later F t m a le = grind arith
 
 -- an authorization's row at a later moment
 pub authorization_swept : (F : History) (t m : ℕ) (a : Authorization) → t ≤ m → authorization_row F m a ≡ swept_authorization m (authorization_row F t a)
-authorization_swept F t m a le =
-    (λ i. record (authorization_row F t a) { status = authorization_later F t m a le i }) ∙ by (is_overdue m (authorization_row F t a))
-  where
-    by : (b : Bool) → (let r : AuthorizationRow = record (authorization_row F t a) { status = cond b authz.Expired (authorization_status a F t) } in
-        r ≡ cond b (record (authorization_row F t a) { status = authz.Expired }) (authorization_row F t a))
-    by true = refl
-    by false = refl
+authorization_swept F t m a le = grind arith

@@ -1,11 +1,8 @@
 -- Rows put into their places by number.
-use Rattle.std.proofs.Common.{Some, None, ◌≡◌, ◌≤◌, ◌<◌, ℕ, ◌+◌, List, [], ◌∷◌, ◌++◌, map, filter, refl, sym, ap, ◌∙◌, true, false, Bool, cond, arith, not}
-use Rattle.std.specs.Prelude.{find, nat_lt, ◌==◌, ◌&&◌}
-use Rattle.std.proofs.lemmas.Bool.{eq-eqb, le-ltb, lt-ltb}
-use Rattle.desk_model.specs.Change.{put, remove, moved_rows}
-use Rattle.desk_model.specs.Kept.{EachOf}
-use Rattle.model_laws.specs.Ordered.{Ascends, Below}
-use Rattle.model_laws.specs.Placing.{puts, removes}
+use Rattle.std.proofs.Common.{Some, None, ◌≡◌, ◌≤◌, ◌<◌, ℕ, ◌+◌, List, [], ◌∷◌, ◌++◌, map, filter, refl, sym, ap, ◌∙◌, false, Bool, cond, arith, not}
+use Rattle.std.specs.Prelude.{find, ◌==◌}
+use Rattle.desk_model.specs.{Change.put, Change.remove, Change.moved_rows, Kept.EachOf}
+use Rattle.model_laws.specs.{Ordered.Ascends, Ordered.Below, Placing.puts, Placing.removes}
 use Rattle.model_laws.proofs.Basics.{less_differs, more_differs, each, each_all, map-each, IsNumbered}
 
 -- from a lower number on
@@ -16,28 +13,18 @@ ascends_from number m n (x ∷ xs) le h = ((let a : n ≤ number x = h.0 in omeg
 -- numbers that count up ascend
 pub numbered_ascends : {X : Type 0} (number : X → ℕ) (n : ℕ) (xs : List X) → IsNumbered number n xs → Ascends number n xs
 numbered_ascends number n [] h = tt
-numbered_ascends number n (x ∷ xs) h =
-    let same : number x ≡ n = h.0 in
-    (omega arith, ascends_from number (number x + 1) (n + 1) xs (omega arith) (numbered_ascends number (n + 1) xs h.1))
+numbered_ascends number n (x ∷ xs) h = grind (arith, (numbered_ascends number (n + 1) xs h.1))
 
 -- maps that keep numbers keep their order
 pub ascends_map : {X Y : Type 0} (number : X → ℕ) (other : Y → ℕ) (f : X → Y) (same : (x : X) → other (f x) ≡ number x) (n : ℕ) (xs : List X) →
     Ascends number n xs → Ascends other n (map f xs)
 ascends_map number other f same n [] h = tt
-ascends_map number other f same n (x ∷ xs) h = (
-  (let e : other (f x) ≡ number x = same x in let a : n ≤ number x = h.0 in omega arith),
-  ascends_from other (other (f x) + 1) (number x + 1) (map f xs) (let e : other (f x) ≡ number x = same x in omega arith)
-      (ascends_map number other f same (number x + 1) xs h.1),
-)
+ascends_map number other f same n (x ∷ xs) h = grind (arith, (ascends_map number other f same (number x + 1) xs h.1))
 
 -- what is left ascends
 pub ascends_filter : {X : Type 0} (number : X → ℕ) (p : X → Bool) (n : ℕ) (xs : List X) → Ascends number n xs → Ascends number n (filter p xs)
 ascends_filter number p n [] h = tt
-ascends_filter number p n (x ∷ xs) h = by (p x) (ascends_filter number p (number x + 1) xs h.1)
-  where
-    by : (b : Bool) → Ascends number (number x + 1) (filter p xs) → Ascends number n (cond b (x ∷ filter p xs) (filter p xs))
-    by true k = (h.0, k)
-    by false k = ascends_from number n (number x + 1) (filter p xs) (let a : n ≤ number x = h.0 in omega arith) k
+ascends_filter number p n (x ∷ xs) h = grind (arith, ascends_from, (ascends_filter number p (number x + 1) xs h.1))
 
 -- each number is above n
 abbrev pub Above : {X : Type 0} → (X → ℕ) → ℕ → List X → Type 0
@@ -50,21 +37,15 @@ ascends_above number n m (x ∷ xs) lt h = let a : m ≤ number x = h.0 in (omeg
 
 -- a row is put behind one with a lower number
 pub put_past : {X : Type 0} (number : X → ℕ) (x y : X) (ys : List X) → number y < number x → put number x (y ∷ ys) ≡ y ∷ put number x ys
-put_past number x y ys h =
-    let not_less : nat_lt (number x) (number y) ≡ false = le-ltb (number x) (number y) (omega arith) in
-    λ i. cond (more_differs (number x) (number y) h i) (x ∷ ys) (cond (not_less i) (x ∷ y ∷ ys) (y ∷ put number x ys))
+put_past number x y ys h = grind arith
 
 -- it takes the place of one with its number
 pub put_instead : {X : Type 0} (number : X → ℕ) (x y : X) (ys : List X) → number y ≡ number x → put number x (y ∷ ys) ≡ x ∷ ys
-put_instead number x y ys same =
-    let tied : (number x == number y) ≡ true = eq-eqb (number x) (number y) (sym same) in
-    λ i. cond (tied i) (x ∷ ys) (cond (nat_lt (number x) (number y)) (x ∷ y ∷ ys) (y ∷ put number x ys))
+put_instead number x y ys same = grind arith
 
 -- and goes before one with a greater number
 pub put_before : {X : Type 0} (number : X → ℕ) (x y : X) (ys : List X) → number x < number y → put number x (y ∷ ys) ≡ x ∷ y ∷ ys
-put_before number x y ys h =
-    let less : nat_lt (number x) (number y) ≡ true = lt-ltb (number x) (number y) h in
-    λ i. cond (less_differs (number x) (number y) h i) (x ∷ ys) (cond (less i) (x ∷ y ∷ ys) (y ∷ put number x ys))
+put_before number x y ys h = grind arith
 
 -- a row below all others comes first
 pub put_first : {X : Type 0} (number : X → ℕ) (x : X) (ys : List X) → Above number (number x) ys → put number x ys ≡ x ∷ ys
@@ -82,38 +63,14 @@ pub puts_moved : {X : Type 0} (number : X → ℕ) (test : X → Bool) (move : X
     Ascends number n rows →
     puts number (map move (filter test rows)) rows ≡ map (λ r. cond (test r) (move r) r) rows
 puts_moved number test move same n [] h = refl
-puts_moved number test move same n (r ∷ rs) h =
-    by (test r) (puts_moved number test move same (number r + 1) rs h.1)
-    (ascends_above number (number r) (number r + 1) (map move (filter test rs)) (omega arith)
-    (ascends_map number number move same (number r + 1) (filter test rs) (ascends_filter number test (number r + 1) rs h.1)))
-  where
-    by : (b : Bool) → puts number (map move (filter test rs)) rs ≡ map (λ r. cond (test r) (move r) r) rs →
-        Above number (number r) (map move (filter test rs)) →
-        puts number (map move (cond b (r ∷ filter test rs) (filter test rs))) (r ∷ rs) ≡ cond b (move r) r ∷ map (λ r. cond (test r) (move r) r) rs
-    by true ih above =
-        let e : number (move r) ≡ number r = same r in
-        ap (λ b. puts number (map move (filter test rs))
-        (cond b (move r ∷ rs) (cond (nat_lt (number (move r)) (number r)) (move r ∷ r ∷ rs) (r ∷ put number (move r) rs)))) (eq-eqb
-        (number (move r)) (number r) e)
-        ∙ puts_past number (map move (filter test rs)) (move r) rs
-        (each _ _ (map move (filter test rs)) (λ x k. let lt : number r < number x = k in omega arith) above)
-        ∙ ap (λ l. move r ∷ l) ih
-    by false ih above = puts_past number (map move (filter test rs)) r rs above ∙ ap (λ l. r ∷ l) ih
+puts_moved number test move same n (r ∷ rs) h = grind (arith, ascends_above, puts_past, (puts_moved number test move same (number r + 1) rs h.1), (ascends_map number number move same (number r + 1) (filter test rs) (ascends_filter number test (number r + 1) rs h.1)))
 
 -- putting the touched rows that differ, moved, moves all that are touched
 pub puts_differing : {X : Type 0} (number : X → ℕ) (touched : X → Bool) (differs : X → X → Bool) (move : X → X) →
     ((x : X) → number (move x) ≡ number x) →
     ((x : X) → differs x (move x) ≡ false → move x ≡ x) → (n : ℕ) (rows : List X) → Ascends number n rows →
     puts number (moved_rows touched differs move rows) rows ≡ map (λ r. cond (touched r) (move r) r) rows
-puts_differing number touched differs move same unmoved n rows h =
-    puts_moved number (λ r. touched r && differs r (move r)) move same n rows h
-    ∙ map-each (λ r. cond (touched r && differs r (move r)) (move r) r) (λ r. cond (touched r) (move r) r) rows
-    (each_all _ rows (λ r. by r (touched r) (differs r (move r)) refl))
-  where
-    by : (r : _) (b c : Bool) → differs r (move r) ≡ c → cond (b && c) (move r) r ≡ cond b (move r) r
-    by r true true e = refl
-    by r true false e = sym (unmoved r e)
-    by r false c e = refl
+puts_differing number touched differs move same unmoved n rows h = grind (arith, puts_moved, map-each, each_all)
 
 -- a row above all others comes last
 put_last : {X : Type 0} (number : X → ℕ) (x : X) (rows : List X) → Below number (number x) rows → put number x rows ≡ rows ++ x ∷ []
@@ -155,9 +112,7 @@ puts_append number (x ∷ xs) ys rows = puts_append number xs ys (put number x r
 -- nothing is removed where the number stands nowhere
 pub remove_none : {X : Type 0} (number : X → ℕ) (k : ℕ) (xs : List X) → Above number k xs → remove number k xs ≡ xs
 remove_none number k [] h = refl
-remove_none number k (x ∷ xs) h =
-    ap (λ b. cond (not b) (x ∷ remove number k xs) (remove number k xs)) (less_differs k (number x) h.0)
-    ∙ ap (λ l. x ∷ l) (remove_none number k xs h.1)
+remove_none number k (x ∷ xs) h = grind (arith, (remove_none number k xs h.1))
 
 -- what is removed further on
 removes_past : {X : Type 0} (number : X → ℕ) (ns : List ℕ) (y : X) (ys : List X) → EachOf (λ n. number y < n) ns →
@@ -186,13 +141,7 @@ removes_filter number test n (r ∷ rs) h =
         EachOf (λ k. number r < k) (map number (filter (λ x. not (test x)) rs)) →
         removes number (map number (cond (not b) (r ∷ filter (λ x. not (test x)) rs) (filter (λ x. not (test x)) rs))) (r ∷ rs)
         ≡ cond b (r ∷ filter test rs) (filter test rs)
-    by true ih above = removes_past number (map number (filter (λ x. not (test x)) rs)) r rs above ∙ ap (λ l. r ∷ l) ih
-    by false ih above =
-        ap (λ b. removes number (map number (filter (λ x. not (test x)) rs))
-        (cond (not b) (r ∷ remove number (number r) rs) (remove number (number r) rs))) (eq-eqb (number r) (number r) refl)
-        ∙ ap (removes number (map number (filter (λ x. not (test x)) rs)))
-        (remove_none number (number r) rs (ascends_above number (number r) (number r + 1) rs (omega arith) h.1))
-        ∙ ih
+    by b g l = grind (arith, removes_past, remove_none, ascends_above)
 
 -- ---- look-ups
 
@@ -200,13 +149,7 @@ removes_filter number test n (r ∷ rs) h =
 later_found : {X : Type 0} (number : X → ℕ) (n : ℕ) (xs : List X) → Ascends number n xs →
     EachOf (λ x. (find (λ y. number y == number x) xs ≡ Some x) × (n ≤ number x)) xs
 later_found number n [] h = tt
-later_found number n (x ∷ xs) h =
-    let start : n ≤ number x = h.0 in (
-      (ap (λ b. cond b (Some x) (find (λ y. number y == number x) xs)) (eq-eqb (number x) (number x) refl), start),
-      each _ _ xs (λ y p. let above : number x + 1 ≤ number y = p.1 in
-          (ap (λ b. cond b (Some x) (find (λ z. number z == number y) xs)) (less_differs (number x) (number y) (omega arith)) ∙ p.0, omega arith))
-          (later_found number (number x + 1) xs h.1),
-    )
+later_found number n (x ∷ xs) h = grind (arith, each, (later_found number (number x + 1) xs h.1))
 
 -- each row is found by its number
 pub ascends_found : {X : Type 0} (number : X → ℕ) (n : ℕ) (xs : List X) → Ascends number n xs → EachOf (λ x. find (λ y. number y == number x) xs ≡ Some x) xs

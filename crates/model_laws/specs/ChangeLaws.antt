@@ -1,14 +1,9 @@
 -- How changes make pictures.
-use Rattle.std.specs.Prelude.{ℕ, ◌≤◌, ◌≡◌, List, ◌∷◌}
-use Rattle.std.specs.List.{flat_map}
-use Rattle.desk_model.specs.Change.{applied, changes, recorded_changes, sweep_changes}
-use Rattle.desk_model.specs.Effect.{effect, swept}
-use Rattle.desk_model.specs.{Entry.History, Legal.EachFollows, Kept.EachOf}
-use Rattle.desk_model.specs.History.{clock, record_all}
-use Rattle.desk_model.specs.Tables.{Tables, tables_at, picture}
-use Rattle.desk_model.specs.declared.{entry.Entry.Entry, rows.AuthorizationRow.AuthorizationRow, rows.Meta.Meta}
-use Rattle.model_laws.specs.News.{AreKept, AreNewChildren, AreNews, IsNews, KeepsChildren}
-use Rattle.model_laws.specs.Ordered.{Ascends, IsOrdered}
+use Rattle.std.specs.{Prelude.ℕ, Prelude.◌≤◌, Prelude.◌≡◌, Prelude.List, Prelude.◌∷◌, List.flat_map}
+use Rattle.desk_model.specs.{Change.applied, Change.changes, Change.recorded_changes, Change.sweep_changes, Effect.effect, Effect.swept, Entry.History}
+use Rattle.desk_model.specs.{Legal.EachFollows, Kept.EachOf, History.clock, History.record_all, Tables.Tables, Tables.tables_at, Tables.picture}
+use Rattle.desk_model.specs.{declared.entry.Entry.Entry, declared.rows.AuthorizationRow.AuthorizationRow, declared.rows.Meta.Meta}
+use Rattle.model_laws.specs.{News.AreKept, News.AreNewChildren, News.AreNews, News.IsNews, News.KeepsChildren, Ordered.Ascends, Ordered.IsOrdered}
 
 -- what is recorded, as changes of rows, makes pictures, and which rows it puts
 pub record ChangesMakePictures : Type 0 where

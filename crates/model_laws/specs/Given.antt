@@ -1,12 +1,11 @@
 -- The numbers that a history has given.
 use Rattle.std.specs.Prelude.{ℕ, ◌≤◌, length}
-use Rattle.desk_model.specs.{Kept.EachOf, Account.accounts, Entry.History, Nonce.nonces, Order.orders}
 use Rattle.desk_model.specs.Authorization.{authorizations, count_challenges}
-use Rattle.desk_model.specs.declared.entry.Entry.{Entry}
 use Rattle.desk_model.specs.declared.entry.Entry.TheVariants.{Spent as spent, ContactsChanged as contacts_changed, KeyChanged as key_changed}
 use Rattle.desk_model.specs.declared.entry.Entry.TheVariants.{AccountEnded as account_ended, Ordered as ordered, Answered as answered, Reported as reported}
 use Rattle.desk_model.specs.declared.entry.Entry.TheVariants.{AuthorizationEnded as authorization_ended, Finalized as finalized, Certified as certified}
 use Rattle.desk_model.specs.declared.entry.Entry.TheVariants.{Failed as failed}
+use Rattle.desk_model.specs.{Kept.EachOf, Account.accounts, Entry.History, Nonce.nonces, Order.orders, declared.entry.Entry.Entry}
 use Rattle.model_laws.specs.Reused.{OfReused}
 
 -- how many objects of each kind were made

@@ -1,15 +1,11 @@
 -- What every legal history keeps.
 use Rattle.std.specs.Prelude.{ℕ, ◌+◌, ◌≤◌, ◌≡◌, Bool, IsTrue, length, is_some}
 use Rattle.std.specs.List.{filter, list_any}
-use Rattle.desk_model.specs.Authorization.{is_good, report, reporting, when_proved}
-use Rattle.desk_model.specs.{BaseName.is_base_name, Entry.History, Keys.IsKeyText, Lookup.holds, Terms.are_terms, Texts.HoldTexts, Kept.EachOf}
-use Rattle.desk_model.specs.History.{clock, terms}
-use Rattle.desk_model.specs.Legal.{EachFollows, Legal, numbers_fit}
-use Rattle.desk_model.specs.Limits.{last_end, last_moment, last_number}
-use Rattle.desk_model.specs.Tables.{Tables, tables_at}
-use Rattle.desk_model.specs.declared.{entry.Dated.Dated, objects.Authorization.Authorization, rows.Counters.Counters}
-use Rattle.model_laws.specs.{DateLaws.AreDatedBy, Distinct.Distinct, FirstLaws.AreUnderKeysNow, FirstLaws.KeepsKeys}
-use Rattle.model_laws.specs.Given.{counts, NamesGiven}
+use Rattle.desk_model.specs.{Authorization.is_good, Authorization.report, Authorization.reporting, Authorization.when_proved, BaseName.is_base_name}
+use Rattle.desk_model.specs.{Entry.History, Keys.IsKeyText, Lookup.holds, Terms.are_terms, Texts.HoldTexts, Kept.EachOf, History.clock, History.terms}
+use Rattle.desk_model.specs.{Legal.EachFollows, Legal.Legal, Legal.numbers_fit, Limits.last_end, Limits.last_moment, Limits.last_number, Tables.Tables}
+use Rattle.desk_model.specs.{Tables.tables_at, declared.entry.Dated.Dated, declared.objects.Authorization.Authorization, declared.rows.Counters.Counters}
+use Rattle.model_laws.specs.{DateLaws.AreDatedBy, Distinct.Distinct, FirstLaws.AreUnderKeysNow, FirstLaws.KeepsKeys, Given.counts, Given.NamesGiven}
 
 -- the entry reports on the challenge
 abbrev pub reports_on : ℕ → Dated → Bool

@@ -1,9 +1,8 @@
 -- What a change puts, beside the row that stands in its place.
 use Rattle.std.specs.Prelude.{◌==◌, ◌≡◌, ◌≢◌, List, [], ◌∷◌, Some, None, IfSome, IsTrue, find, is_some, map}
-use Rattle.desk_model.specs.{Tables.Tables, Change.applied_one, Kept.EachOf}
 use Rattle.desk_model.specs.Questions.{authorization_on, owner_on}
-use Rattle.desk_model.specs.declared.rows.{ChallengeRow.ChallengeRow, Change.Change}
 use Rattle.desk_model.specs.declared.rows.Change.TheVariants.{PutNonce, PutAccount, PutAuthorization, PutOrder}
+use Rattle.desk_model.specs.{Tables.Tables, Change.applied_one, Kept.EachOf, declared.rows.ChallengeRow.ChallengeRow, declared.rows.Change.Change}
 use Rattle.model_laws.specs.Distinct.{Distinct}
 
 -- a row that is put is not the one that stands in its place; the one row of a desk's own is always put

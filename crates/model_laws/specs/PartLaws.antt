@@ -1,14 +1,11 @@
 -- How a part of the tables answers and changes as the whole.
 use Rattle.std.specs.Prelude.{ℕ, ◌≤◌, ◌≡◌, Bool, true, List, ◌∷◌, find}
 use Rattle.std.specs.List.{filter}
-use Rattle.desk_model.specs.{Allowed.may_on, Entry.History, Legal.EachFollows}
 use Rattle.desk_model.specs.Change.{applied, changes, recorded_changes, sweep_changes}
-use Rattle.desk_model.specs.Effect.{effect, effects, swept}
-use Rattle.desk_model.specs.History.{clock, record_all}
-use Rattle.desk_model.specs.Tables.{Tables, picture}
 use Rattle.desk_model.specs.Kept.{Covers, CoversSweep, EachOf, HoldersKept, IsClosed, Kept, restricted}
-use Rattle.desk_model.specs.declared.{entry.Entry.Entry, objects.Nonce.Nonce, rows.AccountRow.AccountRow, rows.AuthorizationRow.AuthorizationRow}
-use Rattle.desk_model.specs.declared.{rows.OrderRow.OrderRow}
+use Rattle.desk_model.specs.{Allowed.may_on, Entry.History, Legal.EachFollows, Effect.effect, Effect.effects, Effect.swept, History.clock, History.record_all}
+use Rattle.desk_model.specs.{Tables.Tables, Tables.picture, declared.entry.Entry.Entry, declared.objects.Nonce.Nonce, declared.rows.AccountRow.AccountRow}
+use Rattle.desk_model.specs.{declared.rows.AuthorizationRow.AuthorizationRow, declared.rows.OrderRow.OrderRow}
 use Rattle.model_laws.specs.Parts.{CoversAll, FreshKept, ReadsKept}
 
 -- what is found by a test is the same where the rows that pass are kept

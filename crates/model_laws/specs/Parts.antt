@@ -1,13 +1,11 @@
 -- When a part of the tables is enough for entries and for what is asked of them.
 use Rattle.std.specs.Prelude.{ℕ, ◌+◌, ◌==◌, ◌≡◌, List, [], ◌∷◌, true, bytes_eq}
-use Rattle.desk_model.specs.{Derived.numbers_of, Order.ordered_by, Tables.Tables}
-use Rattle.desk_model.specs.Effect.{effect, fresh_order, has_row}
 use Rattle.desk_model.specs.Kept.{Covers, EachOf, IsClosed, Kept}
-use Rattle.desk_model.specs.declared.entry.Entry.{Entry}
 use Rattle.desk_model.specs.declared.entry.Entry.TheVariants.{Spent as spent, Opened as opened, ContactsChanged as contacts_changed, KeyChanged as key_changed}
 use Rattle.desk_model.specs.declared.entry.Entry.TheVariants.{AccountEnded as account_ended, Ordered as ordered, Answered as answered, Reported as reported}
 use Rattle.desk_model.specs.declared.entry.Entry.TheVariants.{AuthorizationEnded as authorization_ended, Finalized as finalized, Certified as certified}
 use Rattle.desk_model.specs.declared.entry.Entry.TheVariants.{Failed as failed}
+use Rattle.desk_model.specs.{Derived.numbers_of, Order.ordered_by, Tables.Tables, Effect.effect, Effect.fresh_order, Effect.has_row, declared.entry.Entry.Entry}
 use Rattle.model_laws.specs.Reused.{OfReused}
 
 -- the rows that are read to tell whether the entry may follow are kept

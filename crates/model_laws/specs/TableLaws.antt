@@ -1,11 +1,8 @@
 -- How the tables follow the facts.
 use Rattle.std.specs.Prelude.{ℕ, ◌≤◌, ◌≡◌, IsTrue, List, [], ◌∷◌}
-use Rattle.desk_model.specs.{Allowed.may_on, Derived.status_faults, Entry.History, Limits.last_moment}
-use Rattle.desk_model.specs.Effect.{effect, effects, swept}
-use Rattle.desk_model.specs.History.{clock, record_all}
-use Rattle.desk_model.specs.Legal.{EachFollows, IsFormed, may_follow}
-use Rattle.desk_model.specs.Tables.{tables_at, picture}
-use Rattle.desk_model.specs.declared.entry.Entry.{Entry}
+use Rattle.desk_model.specs.{Allowed.may_on, Derived.status_faults, Entry.History, Limits.last_moment, Effect.effect, Effect.effects, Effect.swept}
+use Rattle.desk_model.specs.{History.clock, History.record_all, Legal.EachFollows, Legal.IsFormed, Legal.may_follow, Tables.tables_at, Tables.picture}
+use Rattle.desk_model.specs.{declared.entry.Entry.Entry}
 use Rattle.model_laws.specs.Later.{IsLater}
 
 -- each status that is stored is the one that its row's columns give

@@ -1,46 +1,38 @@
 -- An answer to a challenge changes no order, where each status is the one that its row gives: so the orders that list its authorization may lack.
 use Rattle.std.proofs.Common.{◌≡◌, ◌≤◌, ℕ, List, [], ◌∷◌, ◌++◌, map, Option, Some, None, refl, sym, ap, subst, ◌∙◌, true, false, Bool, cond, Result, Ok, Err}
-use Rattle.std.specs.Prelude.{◌==◌, ◌&&◌, ◌||◌, nat_lt}
-use Rattle.std.specs.List.{list_any}
+use Rattle.std.proofs.Common.{arith, rules}
 use Rattle.std.proofs.lemmas.Bool.{or_left}
-use Rattle.desk_model.specs.{Account.is_valid as is_valid_account, Decide.entries_of, Entry.History, History.clock, Lookup.holds, Payload.challenge_change}
-use Rattle.desk_model.specs.{Order.orders}
-use Rattle.desk_model.specs.Authorization.{authorization_status_by, is_good, authorizations}
+use Rattle.std.specs.{Prelude.◌==◌, Prelude.◌&&◌, Prelude.◌||◌, List.list_any}
 use Rattle.desk_model.specs.Change.{all_changes, changes, order_differs, recorded_changes}
 use Rattle.desk_model.specs.Derived.{and_status, authorization_numbered, numbers_of, restated_authorization, restated_order, stored_statuses}
-use Rattle.desk_model.specs.Effect.{answered_challenge, authorizations_after, effect, effects, has_row, key_numbered, moved_authorization, noted_authorization}
-use Rattle.desk_model.specs.Effect.{noted_challenge, noted_order, swept, swept_authorization, touches_authorization, touches_order}
+use Rattle.desk_model.specs.Effect.{answered_challenge, authorizations_after, effect, effects, has_row, moved_authorization, noted_challenge, noted_order}
+use Rattle.desk_model.specs.Effect.{swept, touches_order}
 use Rattle.desk_model.specs.Kept.{CoversSweep, EachOf, HoldersKept, IsClosed, Kept, restricted}
-use Rattle.desk_model.specs.Legal.{EachFollows, is_pending_challenge}
-use Rattle.desk_model.specs.Questions.{account_with_key, owner_on}
 use Rattle.desk_model.specs.Rules.{challenge_verdict, key_verdict, open_nonce, own, signed_verdict, stands_open}
-use Rattle.desk_model.specs.Shown.{moved_reply, reply_of}
 use Rattle.desk_model.specs.Tables.{Tables, authorization_row, order_row, picture}
-use Rattle.desk_model.specs.declared.{call.Ask.Ask, call.BadKey.BadKey, call.Signed.Signed, payload.ChallengeChange.ChallengeChange, rows.AccountRow.AccountRow}
-use Rattle.desk_model.specs.declared.{rows.AuthorizationRow.AuthorizationRow, rows.Change.TheVariants.PutMeta, rows.ChallengeRow.ChallengeRow}
-use Rattle.desk_model.specs.declared.{rows.OrderRow.OrderRow, verdict.Verdict.Verdict, status.AuthzStatus.AuthzStatus, call.Target.Target}
-use Rattle.desk_model.specs.declared.call.Ask.TheVariants as ask
-use Rattle.desk_model.specs.declared.call.Target.TheVariants as to
 use Rattle.desk_model.specs.declared.entry.Entry.TheVariants.{Answered as answered, Issued as issued, Spent as spent}
+use Rattle.desk_model.specs.declared.verdict.Verdict.TheVariants.{Refused as refused, KeyTaken as key_taken, Answers as answers, Moves as moves}
+use Rattle.desk_model.specs.{Account.is_valid as is_valid_account, Decide.entries_of, Entry.History, History.clock, Lookup.holds, Payload.challenge_change}
+use Rattle.desk_model.specs.{Order.orders, Authorization.is_good, Authorization.authorizations, Legal.EachFollows, Legal.is_pending_challenge}
+use Rattle.desk_model.specs.{Questions.account_with_key, Questions.owner_on, Shown.moved_reply, Shown.reply_of, declared.call.Ask.Ask}
+use Rattle.desk_model.specs.{declared.call.BadKey.BadKey, declared.call.Signed.Signed, declared.payload.ChallengeChange.ChallengeChange}
+use Rattle.desk_model.specs.{declared.rows.AccountRow.AccountRow, declared.rows.AuthorizationRow.AuthorizationRow, declared.rows.Change.TheVariants.PutMeta}
+use Rattle.desk_model.specs.{declared.rows.ChallengeRow.ChallengeRow, declared.rows.OrderRow.OrderRow, declared.verdict.Verdict.Verdict}
+use Rattle.desk_model.specs.{declared.status.AuthzStatus.AuthzStatus, declared.call.Target.Target}
+use Rattle.desk_model.specs.declared.call.Target.TheVariants as to
 use Rattle.desk_model.specs.declared.entry.Move.TheVariants as move
 use Rattle.desk_model.specs.declared.payload.ChallengeChange.TheVariants as chall_change
 use Rattle.desk_model.specs.declared.refusal.Refusal.TheVariants as refusal
-use Rattle.desk_model.specs.declared.verdict.Verdict.TheVariants.{Refused as refused, KeyTaken as key_taken, Answers as answers, Moves as moves}
 use Rattle.model_laws.proofs.Basics.{each, each_all, each_both, each-map}
-use Rattle.model_laws.proofs.Chain.{effect_part, recorded_local}
-use Rattle.model_laws.proofs.{Differing.order_differs_not, RowFacts.authorization_stated, Step.sweep}
 use Rattle.model_laws.proofs.Local.{changes_local, kept_after, moved_number, restated_same, sweep_changes_local, swept_part, touches_same}
-use Rattle.model_laws.proofs.OrderFacts.{order_stated, restated_alike}
 use Rattle.model_laws.proofs.Plain.{covers_issued, covers_spent, issued_closed, issued_effect, nonces_covered, spent_closed, spent_effect}
-use Rattle.model_laws.proofs.SweptParts.{swept_account, swept_closed, touches_swept}
-use Rattle.model_lives.proofs.Steps.{check_keeps, either_keeps, given_keeps}
-use Rattle.model_lives.specs.AnswersAs.{CarriesOutAs, PassesAs}
-use Rattle.model_lives.specs.MinimalPart.{IsStated, IsStatedFor, IsStatedTo}
-use Rattle.model_lives.proofs.{Between.bare, Enough.carried_by, Lists.filtered_each, Ready.swept_names, Walks.sent}
+use Rattle.model_laws.proofs.{Chain.effect_part, Chain.recorded_local, Differing.order_differs_not, RowFacts.authorization_stated, Step.sweep}
+use Rattle.model_laws.proofs.{OrderFacts.order_stated, OrderFacts.restated_alike, SweptParts.swept_closed}
 use Rattle.model_lives.proofs.Grown.{KeepsNamed, KeepsRestated, keeps_falling, target_answers}
-use Rattle.model_lives.proofs.Replies.{client_challenge_shown, owner_after}
-use Rattle.model_lives.proofs.Unlisted.{bare_changes, moves_order}
-use Rattle.model_lives.proofs.Verdicts.{nonce_same, signed_same, verdict_by}
+use Rattle.model_lives.proofs.{Steps.check_keeps, Steps.either_keeps, Steps.given_keeps, Between.bare, Enough.carried_by, Lists.filtered_each}
+use Rattle.model_lives.proofs.{Ready.swept_names, Walks.sent, Replies.client_challenge_shown, Replies.owner_after, Unlisted.bare_changes, Unlisted.moves_order}
+use Rattle.model_lives.proofs.{Verdicts.nonce_same, Verdicts.signed_same, Verdicts.verdict_by}
+use Rattle.model_lives.specs.{AnswersAs.CarriesOutAs, AnswersAs.PassesAs, MinimalPart.IsStated, MinimalPart.IsStatedFor, MinimalPart.IsStatedTo}
 
 -- ---- statuses stand
 
@@ -55,35 +47,20 @@ pictures_stated F m h le =
 
 -- so they are what is asked of them, whatever the ask
 pub stated_for : (a : Ask) (m : ℕ) (T : Tables) → IsStated m (swept m T) → IsStatedFor a m T
-stated_for (ask.Signed s) m T h = by s.target
-  where
-    by : (t : Target) → IsStatedTo t m T
-    by (to.Chall k) = h
-    by _ = tt
-stated_for (ask.NewNonce head) m T h = tt
-stated_for (ask.Office a) m T h = tt
+stated_for a m T h = grind arith
 
 -- the first row of a number, moved or not, gives the same status
 same_status : (move : AuthorizationRow → AuthorizationRow) (n : ℕ) (xs : List AuthorizationRow) (others rest : List AuthzStatus) →
     EachOf (λ r. ((move r).number ≡ r.number) × ((move r).status ≡ r.status)) xs → others ≡ rest →
     and_status (authorization_numbered n (map move xs ++ [])) others ≡ and_status (authorization_numbered n xs) rest
 same_status move n [] others rest h same = same
-same_status move n (x ∷ xs) others rest h same =
-    ap (λ j. and_status (cond (j == n) (Some (move x)) (authorization_numbered n (map move xs ++ []))) others) h.0.0
-    ∙ found (x.number == n) (same_status move n xs others rest h.1 same)
-  where
-    found : (b : Bool) → and_status (authorization_numbered n (map move xs ++ [])) others ≡ and_status (authorization_numbered n xs) rest →
-        and_status (cond b (Some (move x)) (authorization_numbered n (map move xs ++ []))) others
-        ≡ and_status (cond b (Some x) (authorization_numbered n xs)) rest
-    found true later = λ i. h.0.1 i ∷ same i
-    found false later = later
+same_status move n (x ∷ xs) others rest h same = grind (arith, (same_status move n xs others rest h.1 same))
 
 -- rows that move, but keep number and status, give orders the same statuses
 same_statuses : (move : AuthorizationRow → AuthorizationRow) (rows : List AuthorizationRow) →
     EachOf (λ r. ((move r).number ≡ r.number) × ((move r).status ≡ r.status)) rows → (ns : List ℕ) →
     stored_statuses (map move rows ++ []) ns ≡ stored_statuses rows ns
-same_statuses move rows h [] = refl
-same_statuses move rows h (n ∷ ns) = same_status move n rows _ _ h (same_statuses move rows h ns)
+same_statuses move rows h ns = grind (arith, same_status)
 
 -- an answer reports nothing
 still_proved : (n m : ℕ) (key : List ℕ) (cs : List ChallengeRow) →
@@ -93,19 +70,12 @@ still_proved n m key [] = refl
 still_proved n m key (c ∷ cs) = λ i. one (n == c.number) i || still_proved n m key cs i
   where
     one : (b : Bool) → holds (λ r. is_good r.outcome) (cond b (answered_challenge m key c) c).reported ≡ holds (λ r. is_good r.outcome) c.reported
-    one true = refl
-    one false = refl
+    one b = grind arith
 
 -- so an authorization keeps its status
 status_stands : (m n : ℕ) (accounts : List AccountRow) (r : AuthorizationRow) → restated_authorization m r ≡ r →
     (moved_authorization (answered n) m accounts r).status ≡ r.status
-status_stands m n accounts r stated = by (touches_authorization (answered n) r)
-  where
-    by : (b : Bool) → (cond b (restated_authorization m (noted_authorization (answered n) m accounts r)) r).status ≡ r.status
-    by true =
-        ap (authorization_status_by r.ended (nat_lt r.expires m)) (still_proved n m (key_numbered r.account accounts) r.challenges)
-        ∙ ap (λ (x : AuthorizationRow). x.status) stated
-    by false = refl
+status_stands m n accounts r stated = grind (arith, still_proved)
 
 -- so no order moves
 orders_stand : (m n : ℕ) (S : Tables) → IsStated m S → EachOf (λ o. moves_order m S (answered n) o ≡ false) S.orders
@@ -145,18 +115,7 @@ OwnersKept k S n = EachOf (λ r. has_row n r ≡ true → k.authorizations r.num
 -- the part changes as the whole, whatever orders it lacks
 answered_same : (k : Kept) (m n : ℕ) (S : Tables) → IsClosed k S → HoldersKept k S (answered n) → OwnersKept k S n → IsStated m S →
     changes m (restricted k S) (answered n) ≡ changes m S (answered n)
-answered_same k m n S closed holders owners h =
-    bare_changes m (restricted k S) (answered n) (part_stands k m n S closed holders h)
-    ∙ changes_local k (bare S) m (answered n)
-    (record {
-      listed = tt;
-      new_nonces = closed.new_nonces;
-      new_accounts = closed.new_accounts;
-      new_authorizations = closed.new_authorizations;
-      new_orders = closed.new_orders;
-    })
-    (record { accounts = each_all _ S.accounts (λ a t. cc); authorizations = owners; orders = tt; holders = holders }) tt
-    ∙ sym (bare_changes m S (answered n) (orders_stand m n S h))
+answered_same k m n S closed holders owners h = grind (arith, (bare_changes m (restricted k S) (answered n) (part_stands k m n S closed holders h)), (changes_local k (bare S) m (answered n) (record { listed = tt; new_nonces = closed.new_nonces; new_accounts = closed.new_accounts; new_authorizations = closed.new_authorizations; new_orders = closed.new_orders }) (record { accounts = each_all _ S.accounts (λ a t. cc); authorizations = owners; orders = tt; holders = holders }) tt), (bare_changes m S (answered n) (orders_stand m n S h)))
 
 -- also behind the nonces
 entries_same : (k : Kept) (m n : ℕ) (r : List ℕ) (j : ℕ) (S : Tables) → IsClosed k S → HoldersKept k S (answered j) → OwnersKept k S j → IsStated m S →
@@ -252,8 +211,7 @@ carried_answer k T m _ closed h = absurd h
 
 nonces_same : (k : Kept) (T : Tables) (m : ℕ) → IsClosed k T → CoversSweep k T m → (n : ℕ) (fresh : List ℕ) →
     recorded_changes m (restricted k T) (spent n ∷ issued fresh ∷ []) ≡ recorded_changes m T (spent n ∷ issued fresh ∷ [])
-nonces_same k T m closed covers n fresh =
-    recorded_local k T m (spent n ∷ issued fresh ∷ []) closed covers (nonces_covered k m (swept m T) n fresh [] (swept_closed k T m closed) tt)
+nonces_same k T m closed covers n fresh = search (rules, recorded_local, nonces_covered, swept_closed)
 
 records_answer : (k : Kept) (T : Tables) (m : ℕ) (v : Verdict) → IsClosed k T → CoversSweep k T m → IsStated m (swept m T) → IsReplied k m (swept m T) v →
     (n : ℕ) (fresh : List ℕ) →
@@ -270,9 +228,7 @@ records_answer k T m _ closed covers stated h n fresh = absurd h
 
 -- what the sweep leaves of the owner and its account
 swept_holders : (k : Kept) (T : Tables) (m j : ℕ) → HoldersKept k T (answered j) → HoldersKept k (swept m T) (answered j)
-swept_holders k T m j h =
-    each-map _ (swept_authorization m) T.authorizations
-    (each _ _ T.authorizations (λ a f t. ap k.accounts (swept_account m a) ∙ f (sym (touches_swept (answered j) m a) ∙ t)) h)
+swept_holders k T m j h = grind (arith, each-map, each)
 
 passes_chall : (b : Bool) (k : Kept) (T : Tables) (m : ℕ) (s : Signed) (j : ℕ) → IsStated m (swept m T) → IsClosed k T →
     KeepsRestated b k T m (sent s (to.Chall j)) → KeepsNamed k T (sent s (to.Chall j)) → PassesAs m (record s { target = to.Chall j }) T (restricted k T)

@@ -1,76 +1,50 @@
 -- A part that holds what a call touches answers as the touched rows do, and so as the whole.
-use Rattle.std.proofs.Common.{◌≡◌, ◌≤◌, ℕ, ◌+◌, max, List, [], ◌∷◌, map, filter, refl, sym, ap, subst, ◌∙◌, true, false, Bool, cond}
-use Rattle.std.specs.Prelude.{◌==◌, ◌&&◌, ◌||◌}
-use Rattle.std.specs.List.{list_any}
-use Rattle.std.proofs.lemmas.Bool.{and_from, and_parts, eqb-true, or_left, or_right}
-use Rattle.std.proofs.lemmas.Simd.{map-map}
-use Rattle.desk_model.specs.Decide.{entries_of, verdict_reply}
-use Rattle.desk_model.specs.{Derived.restated_order, Order.ordered_by, Tables.Tables, Entry.entry_of, Change.recorded_changes}
+use Rattle.std.proofs.Common.{◌≡◌, ◌≤◌, ℕ, ◌+◌, max, List, [], ◌∷◌, map, filter, refl, sym, ap, subst, ◌∙◌, true, Bool, arith, rules}
+use Rattle.std.proofs.{lemmas.Bool.and_from, lemmas.Bool.and_parts, lemmas.Bool.eqb-true, lemmas.Bool.or_left, lemmas.Bool.or_right, lemmas.Simd.map-map}
+use Rattle.std.specs.{Prelude.◌==◌, Prelude.◌&&◌, Prelude.◌||◌, List.list_any}
 use Rattle.desk_model.specs.Effect.{effect, effects, falls, fresh_order, moved_order, swept, swept_order, touches_order}
-use Rattle.desk_model.specs.Rules.{office_verdict, signed_verdict}
 use Rattle.desk_model.specs.Kept.{EachOf, HoldersKept, IsClosed, Kept, restricted}
-use Rattle.desk_model.specs.declared.{call.Ask.Ask, call.OfficeAsk.OfficeAsk, call.Call.Call, call.Signed.Signed, entry.Entry.Entry, objects.Nonce.Nonce}
-use Rattle.desk_model.specs.declared.{rows.AccountRow.AccountRow, rows.AuthorizationRow.AuthorizationRow, rows.OrderRow.OrderRow, verdict.Verdict.Verdict}
+use Rattle.desk_model.specs.declared.entry.Entry.TheVariants.{Issued as issued, Opened as opened, Ordered as ordered, Spent as spent}
+use Rattle.desk_model.specs.Touched.{is_asked_authorization, is_first_authorization, is_named_account, is_named_order, is_own_authorization, is_own_order}
+use Rattle.desk_model.specs.Touched.{is_past_order, is_touched_account, is_touched_authorization, is_touched_nonce, is_touched_order, lists, only_meta}
+use Rattle.desk_model.specs.Touched.{touched_at, touched_rows}
+use Rattle.desk_model.specs.{Decide.entries_of, Decide.verdict_reply, Derived.restated_order, Order.ordered_by, Tables.Tables, Entry.entry_of}
+use Rattle.desk_model.specs.{Change.recorded_changes, Rules.office_verdict, Rules.signed_verdict, declared.call.Ask.Ask, declared.call.OfficeAsk.OfficeAsk}
+use Rattle.desk_model.specs.{declared.call.Call.Call, declared.call.Signed.Signed, declared.entry.Entry.Entry, declared.objects.Nonce.Nonce}
+use Rattle.desk_model.specs.{declared.rows.AccountRow.AccountRow, declared.rows.AuthorizationRow.AuthorizationRow, declared.rows.OrderRow.OrderRow}
+use Rattle.desk_model.specs.declared.verdict.Verdict.{Verdict, TheVariants.Opens as opens, TheVariants.Orders as orders, TheVariants.Moves as moves}
 use Rattle.desk_model.specs.declared.call.Ask.TheVariants as ask
 use Rattle.desk_model.specs.declared.call.OfficeAsk.TheVariants as office
-use Rattle.desk_model.specs.declared.entry.Entry.TheVariants.{Issued as issued, Opened as opened, Ordered as ordered, Spent as spent}
-use Rattle.desk_model.specs.declared.verdict.Verdict.TheVariants.{Opens as opens, Orders as orders, Moves as moves}
 use Rattle.model_laws.specs.Ordered.{IsOrdered}
 use Rattle.model_laws.proofs.Basics.{each, each_after, each_all, each_both, each-append, each-map, each_of_map, each_parts, one_kept}
-use Rattle.model_laws.proofs.{Chain.authorizations_part, SweptParts.swept_closed}
-use Rattle.model_laws.proofs.Local.{filter_part, swept_part}
+use Rattle.model_laws.proofs.{Chain.authorizations_part, SweptParts.swept_closed, Local.filter_part, Local.swept_part}
 use Rattle.model_lives.specs.AnswersAs.{AnswersAs, CarriesOutAs, IssuesAs, PassesAs, SettlesAs}
-use Rattle.model_lives.specs.IsPart.{IsPartFor, Keeps}
-use Rattle.model_lives.specs.Thinned.{all_challenges}
-use Rattle.desk_model.specs.Asked.{asks_authorizations, asks_name, asks_orders}
-use Rattle.desk_model.specs.Touched.{is_asked_authorization, is_first_authorization, is_named_account, is_named_authorization, is_named_order}
-use Rattle.desk_model.specs.Touched.{is_own_authorization, is_own_order, is_past_order, is_touched_account, is_touched_authorization, is_touched_nonce}
-use Rattle.desk_model.specs.Touched.{is_touched_order, lists, only_meta, touched_at, touched_rows}
+use Rattle.model_lives.specs.{IsPart.IsPartFor, IsPart.Keeps, Thinned.all_challenges}
 use Rattle.model_lives.proofs.Cut.{kept_by, no_part, no_rows, numbered, same_authorizations, touched_kept, touched_listed}
-use Rattle.model_lives.proofs.Enough.{answers_at, ready_by, restricted_ordered, work_as}
-use Rattle.model_lives.proofs.Ready.{IsAnswered, IsReady}
-use Rattle.model_lives.proofs.{Thin.whole_authorizations, Listed.KeepsListed}
-use Rattle.model_lives.proofs.Walks.{IsNoWork, office_answered, signed_answered}
-use Rattle.model_lives.proofs.Grown.{grown, grown_closed, grown_part}
-use Rattle.model_lives.proofs.Lists.{any_gives, each_filtered, filtered_each, or_cases}
+use Rattle.model_lives.proofs.{Enough.answers_at, Enough.ready_by, Enough.restricted_ordered, Enough.work_as, Ready.IsAnswered, Ready.IsReady}
+use Rattle.model_lives.proofs.{Thin.whole_authorizations, Listed.KeepsListed, Walks.IsNoWork, Walks.office_answered, Walks.signed_answered, Grown.grown}
+use Rattle.model_lives.proofs.{Grown.grown_closed, Grown.grown_part, Lists.any_gives, Lists.each_filtered, Lists.filtered_each, Lists.or_cases}
 
 -- ---- what a call touches in a part it touches in the whole
 
 any_part : {X : Type 0} (p q kept : X → Bool) (xs : List X) → ((x : X) → p x ≡ true → q x ≡ true) → list_any p (filter kept xs) ≡ true → list_any q xs ≡ true
 any_part p q kept [] f h = h
-any_part p q kept (x ∷ xs) f h = by (kept x) h (any_part p q kept xs f)
-  where
-    by : (b : Bool) → list_any p (cond b (x ∷ filter kept xs) (filter kept xs)) ≡ true → (list_any p (filter kept xs) ≡ true → list_any q xs ≡ true) →
-        (q x || list_any q xs) ≡ true
-    by true k g = or_cases (p x) (list_any p (filter kept xs)) k (λ e. or_left (q x) _ (f x e)) (λ e. or_right (q x) _ (g e))
-    by false k g = or_right (q x) _ (g k)
+any_part p q kept (x ∷ xs) f h = grind (arith, (any_part p q kept xs f))
 
 own_order_wider : (k : Kept) (T : Tables) (a : Ask) (o : OrderRow) → is_own_order (restricted k T) a o ≡ true → is_own_order T a o ≡ true
-own_order_wider k T a o h =
-    let p = and_parts (asks_orders a) _ h in
-    and_from _ _ p.0 (any_part (λ x. is_named_account a x && (o.account == x.number)) (λ x. is_named_account a x && (o.account == x.number))
-    (λ x. k.accounts x.number) T.accounts (λ x e. e) p.1)
+own_order_wider k T a o h = grind (arith, any_part)
 
 own_authorization_wider : (k : Kept) (T : Tables) (a : Ask) (r : AuthorizationRow) → is_own_authorization (restricted k T) a r ≡ true
     → is_own_authorization T a r ≡ true
-own_authorization_wider k T a r h =
-    let p = and_parts (asks_authorizations a) _ h in
-    and_from _ _ p.0 (any_part (λ x. is_named_account a x && (r.account == x.number)) (λ x. is_named_account a x && (r.account == x.number))
-    (λ x. k.accounts x.number) T.accounts (λ x e. e) p.1)
+own_authorization_wider k T a r h = grind (arith, any_part)
 
 asked_wider : (k : Kept) (T : Tables) (a : Ask) (r : AuthorizationRow) → is_asked_authorization (restricted k T) a r ≡ true → is_asked_authorization T a r
     ≡ true
-asked_wider k T a r h =
-    let p = and_parts (asks_name a r.name) _ h in
-    and_from _ _ p.0 (any_part (λ x. is_named_account a x && (r.account == x.number)) (λ x. is_named_account a x && (r.account == x.number))
-    (λ x. k.accounts x.number) T.accounts (λ x e. e) p.1)
+asked_wider k T a r h = grind (arith, any_part)
 
 first_wider : (k : Kept) (T : Tables) (m : ℕ) (a : Ask) (r : AuthorizationRow) → is_first_authorization (restricted k T) m a r ≡ true
     → is_first_authorization T m a r ≡ true
-first_wider k T m a r h =
-    or_cases (is_named_authorization a r) _ h (λ e. or_left _ _ e) (λ e. or_right (is_named_authorization a r) _
-    (or_cases (is_own_authorization (restricted k T) a r) _ e (λ f. or_left _ _ (own_authorization_wider k T a r f))
-    (λ f. or_right (is_own_authorization T a r) _ f)))
+first_wider k T m a r h = grind (arith, own_authorization_wider)
 
 order_wider : (k : Kept) (T : Tables) (m : ℕ) (a : Ask) (o : OrderRow) → is_touched_order (restricted k T) m a o ≡ true → is_touched_order T m a o ≡ true
 order_wider k T m a o h =
@@ -202,15 +176,11 @@ touched_ready : (T : Tables) (m : ℕ) (a : Ask) → IsOrdered T → IsReady (gr
 touched_ready T m a h = ready_by (kept_by T m a) T m a h (touched_listed T m a h) (touched_kept T m a h)
 
 signed_holders : (k : Kept) (T : Tables) (m : ℕ) (s : Signed) → IsOrdered T → Keeps k (touched_rows T m (ask.Signed s)) → HoldersFor k T m (ask.Signed s)
-signed_holders k T m s h holds r =
-    let a : Ask = ask.Signed s in
-    holders_of k T m a (signed_verdict (swept m T) r s) holds (signed_answered (grown (kept_by T m a) T) T m r s (touched_ready T m a h))
+signed_holders k T m s h holds r = search (rules, holders_of, signed_answered, touched_ready)
 
 office_holders : (k : Kept) (T : Tables) (m : ℕ) (a : OfficeAsk) → IsNoWork a → IsOrdered T → Keeps k (touched_rows T m (ask.Office a)) →
     HoldersFor k T m (ask.Office a)
-office_holders k T m a none h holds =
-    holders_of k T m (ask.Office a) (office_verdict (swept m T) a) holds
-    (office_answered (grown (kept_by T m (ask.Office a)) T) T m a none (touched_ready T m (ask.Office a) h))
+office_holders k T m a none h holds = search (rules, holders_of, office_answered, touched_ready)
 
 entry_stands : (k : Kept) (T : Tables) (m : ℕ) (e : Entry) → IsOrdered T → HoldersKept (open_kept k T) (swept m T) e →
     (effect m (swept m (restricted k T)) e).authorizations ≡ filter (λ r. (open_kept k T).authorizations r.number) (effect m (swept m T) e).authorizations
@@ -308,13 +278,7 @@ issues_between k T Q m low high = record { records = λ r. sym (high.records r) 
 settles_between : (k : Kept) (T Q : Tables) (m : ℕ) (a : OfficeAsk) → IsOrdered T → HoldersFor k T m (ask.Office a) → SettlesAs m a T Q
     → SettlesAs m a (restricted k T) Q
     → SettlesAs m a T (restricted k T)
-settles_between k T Q m a h holders low high =
-    let judged : office_verdict (swept m (restricted k T)) a ≡ office_verdict (swept m T) a = sym high.judged ∙ low.judged in
-    record {
-      judged = judged;
-      verdict = carries_between k T Q m (office_verdict (swept m T) a) h holders low.verdict (subst (CarriesOutAs m (restricted k T) Q) judged high.verdict);
-      records = sym (subst (λ v. recorded_changes m Q (entries_of v) ≡ recorded_changes m (restricted k T) (entries_of v)) judged high.records) ∙ low.records;
-    }
+settles_between k T Q m a h holders low high = grind (arith, carries_between)
 
 passes_between : (k : Kept) (T Q : Tables) (m : ℕ) (s : Signed) → IsOrdered T → HoldersFor k T m (ask.Signed s) → PassesAs m s T Q
     → PassesAs m s (restricted k T) Q
@@ -335,9 +299,7 @@ passes_between k T Q m s h holders low high =
 
 answers_between : (k : Kept) (T Q : Tables) (m : ℕ) (a : Ask) → IsOrdered T → HoldersFor k T m a → AnswersAs m a T Q → AnswersAs m a (restricted k T) Q
     → AnswersAs m a T (restricted k T)
-answers_between k T Q m (ask.NewNonce head) h holders low high = issues_between k T Q m low high
-answers_between k T Q m (ask.Signed s) h holders low high = passes_between k T Q m s h holders low high
-answers_between k T Q m (ask.Office a) h holders low high = settles_between k T Q m a h holders low high
+answers_between k T Q m a h l g e = grind (arith, issues_between, passes_between, settles_between)
 
 -- ---- a part for a call
 
@@ -371,6 +333,4 @@ part_answers k T m (ask.Office a) h holds = rows_answer k T m (ask.Office a) h (
 
 -- a part for a call answers it as the whole
 pub parts_answer : (T P : Tables) (call : Call) → IsOrdered T → IsPartFor call T P → AnswersAs (max call.at T.meta.counters.clock) call.ask T P
-parts_answer T P call h part =
-    subst (AnswersAs (max call.at T.meta.counters.clock) call.ask T) (sym part.cut)
-    (part_answers part.kept T (max call.at T.meta.counters.clock) call.ask h part.holds)
+parts_answer T P call h part = grind (arith, part_answers)

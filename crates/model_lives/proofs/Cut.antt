@@ -1,21 +1,18 @@
 -- The rows that a call touches are a part of the tables, cut by numbers.
 use Rattle.std.proofs.Common.{◌≡◌, ◌≤◌, ◌<◌, ℕ, ◌+◌, max, List, [], ◌∷◌, refl, sym, ap, subst, ◌∙◌, true, false, Bool, arith}
-use Rattle.std.specs.Prelude.{◌==◌, ◌&&◌, ◌||◌}
-use Rattle.std.specs.List.{list_any}
 use Rattle.std.proofs.lemmas.Bool.{and_from, or_left, or_right}
-use Rattle.std.proofs.Math.Bool.{or-false}
-use Rattle.desk_model.specs.{Derived.numbers_of, Tables.Tables}
-use Rattle.desk_model.specs.declared.{call.Ask.Ask, call.Call.Call, objects.Nonce.Nonce, rows.AccountRow.AccountRow, rows.AuthorizationRow.AuthorizationRow}
-use Rattle.desk_model.specs.declared.{rows.OrderRow.OrderRow}
+use Rattle.std.specs.{Prelude.◌==◌, Prelude.◌&&◌, Prelude.◌||◌, List.list_any}
 use Rattle.desk_model.specs.Kept.{EachOf, Kept, restricted}
+use Rattle.desk_model.specs.Touched.{is_asked_authorization, is_first_authorization, is_touched_account, is_touched_authorization, is_touched_nonce}
+use Rattle.desk_model.specs.Touched.{is_touched_order, lists, only_meta, touched, touched_at, touched_rows}
+use Rattle.desk_model.specs.{Derived.numbers_of, Tables.Tables, declared.call.Ask.Ask, declared.call.Call.Call, declared.objects.Nonce.Nonce}
+use Rattle.desk_model.specs.{declared.rows.AccountRow.AccountRow, declared.rows.AuthorizationRow.AuthorizationRow, declared.rows.OrderRow.OrderRow}
 use Rattle.desk_model.specs.declared.call.Ask.TheVariants as ask
 use Rattle.desk_model.specs.declared.call.OfficeAsk.TheVariants as office
 use Rattle.model_laws.specs.Ordered.{Ascends, IsOrdered}
-use Rattle.model_laws.proofs.Basics.{each, each_both, less_differs, more_differs}
+use Rattle.model_laws.proofs.Basics.{each, each_both, more_differs}
 use Rattle.model_lives.specs.IsPart.{IsPartFor, Keeps}
 use Rattle.model_lives.proofs.{Listed.KeepsListed, Enough.whole_part}
-use Rattle.desk_model.specs.Touched.{is_asked_authorization, is_first_authorization, is_touched_account, is_touched_authorization, is_touched_nonce}
-use Rattle.desk_model.specs.Touched.{is_touched_order, lists, only_meta, touched, touched_at, touched_rows}
 use Rattle.model_lives.proofs.Lists.{each_member, filter_nothing, filter_same, filtered_each, same_number}
 
 -- ---- a test on rows, and on their numbers
@@ -35,18 +32,7 @@ none_above number test n j (x ∷ xs) lt h =
 numbered_from : {X : Type 0} (number : X → ℕ) (test : X → Bool) (n : ℕ) (xs : List X) → Ascends number n xs →
     EachOf (λ x. (at_number number test xs (number x) ≡ test x) × (n ≤ number x)) xs
 numbered_from number test n [] h = tt
-numbered_from number test n (x ∷ xs) h = (
-  (
-    ap (λ b. (b && test x) || at_number number test xs (number x)) (same_number (number x))
-        ∙ ap (λ b. test x || b) (none_above number test (number x) (number x + 1) xs (omega arith) h.1) ∙ or-false (test x),
-    h.0,
-  ),
-  each _ _ xs (λ y p. (
-    (let up : number x + 1 ≤ number y = p.1 in
-        ap (λ b. (b && test x) || at_number number test xs (number y)) (less_differs (number x) (number y) (omega arith)) ∙ p.0),
-    (let up : number x + 1 ≤ number y = p.1 in let low : n ≤ number x = h.0 in omega arith),
-  )) (numbered_from number test (number x + 1) xs h.1),
-)
+numbered_from number test n (x ∷ xs) h = grind (arith, none_above, each, (numbered_from number test (number x + 1) xs h.1))
 
 pub numbered : {X : Type 0} (number : X → ℕ) (test : X → Bool) (n : ℕ) (xs : List X) → Ascends number n xs →
     EachOf (λ x. at_number number test xs (number x) ≡ test x) xs
@@ -128,13 +114,7 @@ touched_part T call h = by call.ask refl
   where
     rows : (a : Ask) → touched_at T (max call.at T.meta.counters.clock) a ≡ touched_rows T (max call.at T.meta.counters.clock) a
         → call.ask ≡ a → IsPartFor call T (touched T call)
-    rows a e is =
-        let same : touched T call ≡ touched_rows T (max call.at T.meta.counters.clock) a = ap (touched_at T (max call.at T.meta.counters.clock)) is ∙ e in
-        record {
-          kept = kept_by T (max call.at T.meta.counters.clock) a;
-          cut = same ∙ touched_cut T (max call.at T.meta.counters.clock) a h;
-          holds = subst (Keeps (kept_by T (max call.at T.meta.counters.clock) a)) (sym same) (touched_kept T (max call.at T.meta.counters.clock) a h);
-        }
+    rows l g k = grind (arith, touched_cut, touched_kept)
 
     by : (a : Ask) → call.ask ≡ a → IsPartFor call T (touched T call)
     by (ask.Office office.Directory) is =

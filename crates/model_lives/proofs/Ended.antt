@@ -1,28 +1,19 @@
 -- What has ended keeps its row: through an entry, through the passing of time, and so for ever.
-use Rattle.std.proofs.Common.{◌≡◌, ◌≤◌, ℕ, List, [], ◌∷◌, ◌++◌, map, Option, Some, None, refl, sym, ap, ◌∙◌, subst, Bool, true, false, cond, arith, max}
-use Rattle.std.specs.Prelude.{IsTrue, find, ◌&&◌, ◌||◌, ◌==◌, nat_lt}
-use Rattle.desk_model.specs.{Entry.History, History.clock, Order.orders, Allowed.may_on}
-use Rattle.desk_model.specs.declared.{entry.Entry.Entry, entry.Dated.Dated, entry.Entry.TheVariants.Made as made, rows.AccountRow.AccountRow}
-use Rattle.desk_model.specs.declared.{rows.ChallengeRow.ChallengeRow, rows.AuthorizationRow.AuthorizationRow, rows.OrderRow.OrderRow}
-use Rattle.desk_model.specs.declared.{status.AuthzStatus.AuthzStatus, status.OrderStatus.OrderStatus}
-use Rattle.desk_model.specs.Authorization.{authorizations, is_over, is_live}
-use Rattle.desk_model.specs.Legal.{EachFollows, Legal}
+use Rattle.std.proofs.Common.{◌≡◌, ◌≤◌, ℕ, List, [], ◌∷◌, ◌++◌, map, Some, refl, sym, ap, ◌∙◌, subst, true, false, arith, max, rules}
+use Rattle.std.specs.Prelude.{IsTrue, ◌==◌}
 use Rattle.desk_model.specs.Questions.{account_on, order_on, authorization_on, owner_on, challenge_of}
 use Rattle.desk_model.specs.Tables.{Tables, authorization_row, order_row, tables_at, picture}
-use Rattle.desk_model.specs.Derived.{restated_authorization, restated_order, numbers_of}
-use Rattle.desk_model.specs.Effect.{authorizations_after, effect, falls, has_row, is_live_order, is_overdue, key_numbered, lists_one, moved_account}
-use Rattle.desk_model.specs.Effect.{moved_authorization, moved_order, noted_account, noted_authorization, noted_challenge, noted_order, swept}
-use Rattle.desk_model.specs.Effect.{swept_authorization, swept_order, touches_account, touches_authorization, touches_order}
-use Rattle.desk_model.specs.Life.{history, is_final_account, is_final_challenge, is_final_order, challenge_in_rows, challenge_on, EndedRowsStay, EndedStays}
-use Rattle.desk_model.specs.declared.status.AuthzStatus.TheVariants as authz
-use Rattle.desk_model.specs.declared.status.OrderStatus.TheVariants as order
+use Rattle.desk_model.specs.Effect.{authorizations_after, effect, has_row, moved_account, moved_authorization, moved_order, noted_account, noted_authorization}
+use Rattle.desk_model.specs.Effect.{noted_order, swept, touches_account, touches_authorization, touches_order}
+use Rattle.desk_model.specs.Life.{is_final_account, is_final_challenge, is_final_order, challenge_in_rows, challenge_on, EndedRowsStay, EndedStays}
+use Rattle.desk_model.specs.{Entry.History, History.clock, Order.orders, Allowed.may_on, declared.entry.Entry.Entry, declared.entry.Dated.Dated}
+use Rattle.desk_model.specs.{declared.entry.Entry.TheVariants.Made as made, declared.rows.AccountRow.AccountRow, declared.rows.ChallengeRow.ChallengeRow}
+use Rattle.desk_model.specs.{declared.rows.AuthorizationRow.AuthorizationRow, declared.rows.OrderRow.OrderRow, Authorization.authorizations}
+use Rattle.desk_model.specs.{Authorization.is_over, Legal.EachFollows, Derived.restated_authorization, Derived.restated_order}
 use Rattle.model_laws.proofs.{AllowedFacts.allowed, OrderFacts.order_stated, Recorded.challenges_ordered, RowFacts.authorization_stated, Finds.found_moved}
-use Rattle.model_laws.proofs.Basics.{each_all, each-map, find-append, one_kept}
-use Rattle.model_laws.proofs.MovedRows.{challenge_number, has_row-moved}
-use Rattle.model_laws.proofs.Step.{step, sweep}
+use Rattle.model_laws.proofs.{Basics.each_all, Basics.each-map, Basics.find-append, Basics.one_kept, MovedRows.has_row-moved, Step.step, Step.sweep}
 use Rattle.model_lives.proofs.EndedRows.{IsStated, account_stays, authorization_stays, challenge_stays}
-use Rattle.model_lives.proofs.EndedOrders.{order_stays}
-use Rattle.model_lives.proofs.Extends.{extends_earlier, histories_are_legal}
+use Rattle.model_lives.proofs.{EndedOrders.order_stays, Extends.extends_earlier, Extends.histories_are_legal}
 
 -- ---- a challenge through its authorization
 
@@ -34,11 +25,7 @@ pub record HasOwner (T : Tables) (n : ℕ) (row : ChallengeRow) : Type 0 where
 
 -- each challenge of the tables stands in one
 has_owner : (T : Tables) (n : ℕ) (row : ChallengeRow) → challenge_on T n ≡ Some row → HasOwner T n row
-has_owner T n row h = by (owner_on T n) refl h
-  where
-    by : (o : Option AuthorizationRow) → owner_on T n ≡ o → challenge_in_rows n o ≡ Some row → HasOwner T n row
-    by None e k = cc
-    by (Some a) e k = record { owner = a; owned = e; found = k }
+has_owner T n row h = grind arith
 
 -- ---- an entry
 
@@ -46,19 +33,7 @@ has_owner T n row h = by (owner_on T n) refl h
 challenge_moved : (T : Tables) (e : Entry) (m n : ℕ) (a : AuthorizationRow) (row : ChallengeRow) → may_on T e ≡ true → owner_on T n ≡ Some a →
     challenge_of n a ≡ Some row → is_final_challenge row.status ≡ true →
     challenge_of n (moved_authorization e m T.accounts a) ≡ Some row
-challenge_moved T e m n a row may owner found ended = by (touches_authorization e a)
-  where
-    key : List ℕ
-    key = key_numbered a.account T.accounts
-
-    noted : find (λ c. n == c.number) (map (noted_challenge e m key) a.challenges) ≡ Some row
-    noted =
-        found_moved (λ c. n == c.number) (noted_challenge e m key) (λ c. ap (λ k. n == k) (challenge_number e m key c)) a.challenges row found
-        ∙ ap (λ c. Some c) (challenge_stays T e m n key a row may owner found ended)
-
-    by : (b : Bool) → challenge_of n (cond b (restated_authorization m (noted_authorization e m T.accounts a)) a) ≡ Some row
-    by true = noted
-    by false = found
+challenge_moved T e m n a row may owner found ended = grind (arith, found_moved, challenge_stays)
 
 -- an entry that may be recorded leaves the rows that have ended
 entry_stays : (T : Tables) (e : Entry) (m : ℕ) → IsStated m T → may_on T e ≡ true → EndedRowsStay T (effect m T e)
@@ -100,70 +75,19 @@ entry_stays T e m stated may = record { accounts = accounts_stay; orders = order
 
 -- ---- the passing of time
 
--- one that is over is not overdue
-over_lasts : (s : AuthzStatus) (past : Bool) → is_over s ≡ true → (is_live s && past) ≡ false
-over_lasts authz.Pending past h = cc
-over_lasts authz.Valid past h = cc
-over_lasts _ past h = refl
-
--- an order that has ended does not fall
-final_lasts : (s : OrderStatus) (test : Bool) → is_final_order s ≡ true → (is_live_order s && test) ≡ false
-final_lasts order.Pending test h = cc
-final_lasts order.Ready test h = cc
-final_lasts order.Processing test h = cc
-final_lasts _ test h = refl
-
 -- the passing of time leaves the rows that have ended
 time_stays : (T : Tables) (m : ℕ) → EndedRowsStay T (swept m T)
-time_stays T m =
-    record { accounts = λ n row found ended. found; orders = orders_stay; authorizations = authorizations_stay; challenges = challenges_stay }
-  where
-    authorizations_stay : (n : ℕ) (row : AuthorizationRow) → authorization_on T n ≡ Some row → IsTrue (is_over row.status) →
-        authorization_on (swept m T) n ≡ Some row
-    authorizations_stay n row found ended =
-        found_moved (λ a. a.number == n) (swept_authorization m)
-        (λ a. ap (λ k. k == n) (one_kept (λ (a : AuthorizationRow). a.number) (is_overdue m a) (record a { status = authz.Expired }) a refl))
-        T.authorizations row found
-        ∙ ap (λ b. Some (cond b (record row { status = authz.Expired }) row)) (over_lasts row.status (nat_lt row.expires m) ended)
-
-    orders_stay : (n : ℕ) (row : OrderRow) → order_on T n ≡ Some row → IsTrue (is_final_order row.status) → order_on (swept m T) n ≡ Some row
-    orders_stay n row found ended =
-        found_moved (λ o. o.number == n) (swept_order m T.authorizations)
-        (λ o. ap (λ k. k == n) (one_kept (λ (o : OrderRow). o.number) (falls m T.authorizations o) (record o { status = order.Invalid }) o refl))
-        T.orders row found
-        ∙ ap (λ b. Some (cond b (record row { status = order.Invalid }) row))
-        (final_lasts row.status (nat_lt row.expires m || lists_one (is_overdue m) T.authorizations (numbers_of row.listed)) ended)
-
-    challenges_stay : (n : ℕ) (row : ChallengeRow) → challenge_on T n ≡ Some row → IsTrue (is_final_challenge row.status) →
-        challenge_on (swept m T) n ≡ Some row
-    challenges_stay n row found ended =
-        let s = has_owner T n row found in
-        ap (challenge_in_rows n) (found_moved (has_row n) (swept_authorization m)
-        (λ a. one_kept (has_row n) (is_overdue m a) (record a { status = authz.Expired }) a refl) T.authorizations s.owner s.owned)
-        ∙ one_kept (challenge_of n) (is_overdue m s.owner) (record s.owner { status = authz.Expired }) s.owner refl
-        ∙ s.found
+time_stays T m = search (rules, found_moved)
 
 -- ---- histories
 
 -- rows that stay from T to U and from U to V stay from T to V
 stays_trans : (T U V : Tables) → EndedRowsStay T U → EndedRowsStay U V → EndedRowsStay T V
-stays_trans T U V p q =
-    record {
-      accounts = λ n row found ended. q.accounts n row (p.accounts n row found ended) ended;
-      orders = λ n row found ended. q.orders n row (p.orders n row found ended) ended;
-      authorizations = λ n row found ended. q.authorizations n row (p.authorizations n row found ended) ended;
-      challenges = λ n row found ended. q.challenges n row (p.challenges n row found ended) ended;
-    }
+stays_trans T U V p q = grind arith
 
 -- each row stays where it is
 stays_refl : (T : Tables) → EndedRowsStay T T
-stays_refl T =
-    record {
-      accounts = λ n row found ended. found;
-      orders = λ n row found ended. found;
-      authorizations = λ n row found ended. found;
-      challenges = λ n row found ended. found;
-    }
+stays_refl T = grind arith
 
 -- the tables of a legal history have the statuses that their columns give
 tables_stated : (F : History) (m : ℕ) → EachFollows F → IsStated m (tables_at F m)
@@ -208,8 +132,4 @@ extended_stays (d ∷ more) F h = stays_trans (picture F) (picture (more ++ F)) 
 
 -- what has ended keeps its row over every life
 pub ended_stays : EndedStays
-ended_stays start later earlier life =
-    let p = extends_earlier start later earlier in
-    let legal : Legal (history start (later ++ earlier)) = histories_are_legal start (later ++ earlier) life in
-    subst (λ G. EndedRowsStay (picture (history start earlier)) (picture G)) p.is
-    (extended_stays p.more (history start earlier) (subst EachFollows (sym p.is) legal.each))
+ended_stays start later earlier life = grind (arith, histories_are_legal, extended_stays, (extends_earlier start later earlier))

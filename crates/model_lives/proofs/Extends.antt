@@ -1,11 +1,9 @@
 -- A history after a call is a longer one, and what is acknowledged stays in it.
-use Rattle.std.proofs.Common.{◌≡◌, ℕ, List, [], ◌∷◌, ◌++◌, Option, Some, refl, sym, ap, ◌∙◌, append_assoc, true, false}
-use Rattle.desk_model.specs.Entry.{History}
-use Rattle.desk_model.specs.declared.{entry.Entry.Entry, entry.Dated.Dated, call.Call.Call}
+use Rattle.std.proofs.Common.{◌≡◌, ℕ, List, [], ◌∷◌, ◌++◌, Option, Some, refl, sym, ap, ◌∙◌, append_assoc, true, false, arith}
 use Rattle.desk_model.specs.History.{record_all, moment_of, first, earlier}
-use Rattle.desk_model.specs.Decide.{decide, after}
 use Rattle.desk_model.specs.Life.{Event, Replied, Faulted, Stopped, Reopened, history, kept_calls, made_by, IsLife, HistoriesAreLegal, HistoriesAreOfCalls}
 use Rattle.desk_model.specs.Life.{AcknowledgedStays, RepliesAreDecided}
+use Rattle.desk_model.specs.{Entry.History, declared.entry.Entry.Entry, declared.entry.Dated.Dated, declared.call.Call.Call, Decide.decide, Decide.after}
 use Rattle.model_laws.proofs.Basics.{earlier-some}
 use Rattle.model_lives.proofs.SoundCalls.{legal_after}
 
@@ -34,10 +32,7 @@ extends_after F call = extends_record_all (moment_of call.at F) (decide F call).
 
 -- and so does an event
 extends_event : (start : History) (e : Event) (es : List Event) → Extends (history start es) (history start (e ∷ es))
-extends_event start (Replied c r) es = extends_after (history start es) c
-extends_event start (Faulted c) es = extends_refl (history start es)
-extends_event start (Stopped c true) es = extends_after (history start es) c
-extends_event start _ es = extends_refl (history start es)
+extends_event start e es = grind (arith, extends_after)
 
 -- a history extends those before it
 pub extends_earlier : (start : History) (later earlier : List Event) → Extends (history start earlier) (history start (later ++ earlier))
@@ -75,8 +70,7 @@ of_calls start (Reopened ∷ es) = of_calls start es
 
 -- what was acknowledged stays
 pub acknowledged_stays : AcknowledgedStays
-acknowledged_stays start later es c r life =
-    let (calls, p) = kept_later later (Replied c r ∷ es) in record { later = calls; first = p; whole = of_calls start (Replied c r ∷ es) }
+acknowledged_stays start later es c r life = grind (arith, of_calls, (kept_later later (Replied c r ∷ es)))
 
 -- the life up to some time
 pub life_before : (start : History) (later earlier : List Event) → IsLife start (later ++ earlier) → IsLife start earlier

@@ -1,31 +1,24 @@
 -- The few rows that are enough for a call: they are cut from the tables by their numbers, and have all that decides.
-use Rattle.std.proofs.Common.{◌≡◌, ℕ, refl, sym, ap, subst, ◌∙◌, true, false, Bool}
-use Rattle.std.specs.Prelude.{◌==◌, ◌&&◌, ◌||◌}
-use Rattle.std.specs.List.{list_any}
-use Rattle.std.proofs.lemmas.Bool.{and_from, and_parts, or_left, or_right}
-use Rattle.std.proofs.Math.Bool.{or-false}
-use Rattle.desk_model.specs.Asked.{asks_name, asks_orders, target_orders}
-use Rattle.desk_model.specs.{Derived.numbers_of, Tables.Tables}
-use Rattle.desk_model.specs.Kept.{EachOf, Kept, restricted}
+use Rattle.std.proofs.Common.{◌≡◌, ℕ, refl, sym, ap, subst, ◌∙◌, true, false, Bool, arith}
+use Rattle.std.proofs.{lemmas.Bool.and_from, lemmas.Bool.and_parts, lemmas.Bool.or_left, lemmas.Bool.or_right, Math.Bool.or-false}
+use Rattle.std.specs.{Prelude.◌==◌, Prelude.◌&&◌, Prelude.◌||◌, List.list_any}
 use Rattle.desk_model.specs.Touched.{is_named_account, is_named_order, is_touched_nonce, lists}
-use Rattle.desk_model.specs.declared.{call.Ask.Ask, call.OfficeAsk.OfficeAsk, call.Signed.Signed, call.Target.Target, objects.Nonce.Nonce}
-use Rattle.desk_model.specs.declared.{rows.AccountRow.AccountRow, rows.AuthorizationRow.AuthorizationRow, rows.OrderRow.OrderRow}
+use Rattle.desk_model.specs.{Asked.asks_name, Asked.asks_orders, Derived.numbers_of, Tables.Tables, Kept.EachOf, Kept.Kept, Kept.restricted}
+use Rattle.desk_model.specs.{declared.call.Ask.Ask, declared.call.OfficeAsk.OfficeAsk, declared.call.Signed.Signed, declared.objects.Nonce.Nonce}
+use Rattle.desk_model.specs.{declared.rows.AccountRow.AccountRow, declared.rows.AuthorizationRow.AuthorizationRow, declared.rows.OrderRow.OrderRow}
 use Rattle.desk_model.specs.declared.call.Ask.TheVariants as ask
-use Rattle.desk_model.specs.declared.call.OfficeAsk.TheVariants as office
-use Rattle.desk_model.specs.declared.call.Target.TheVariants as to
 use Rattle.model_laws.specs.Ordered.{IsOrdered}
 use Rattle.model_laws.proofs.Basics.{each, each_all, each_both}
 use Rattle.model_lives.specs.AnswersAs.{IssuesAs, PassesAs, SettlesAs}
 use Rattle.model_lives.specs.MinimalPart.{minimal_rows, is_needed_account, is_needed_authorization, is_needed_order, is_moved_authorization, is_opened_order, IsStatedFor}
 use Rattle.model_lives.specs.MinimalPart.{is_restated_authorization, is_wanted_authorization, needs_holders, needs_listed, changes_statuses, target_needs_listed}
-use Rattle.model_lives.proofs.{Answering.passes_answer, Listed.KeepsListed, Ready.IsReady, Unlisted.passes_open, Walks.IsNoWork}
 use Rattle.model_lives.specs.IsPart.{Keeps}
-use Rattle.model_lives.proofs.Cut.{at_number, numbered}
 use Rattle.model_lives.proofs.Enough.{issues_as, passes_as, settles_as}
 use Rattle.model_lives.proofs.Grown.{KeepsNamed, KeepsRestated, KeepsRows, answers_challenge, grown, grown_closed, grown_part, kept_number, keeps_falling}
 use Rattle.model_lives.proofs.Grown.{keeps_named, target_answers}
-use Rattle.model_lives.proofs.Lists.{any_wider, each_filtered, each_member, filter_nothing, filter_same, filtered_each, or_cases, same_number}
+use Rattle.model_lives.proofs.Lists.{any_wider, each_filtered, each_member, filter_nothing, filter_same, filtered_each, same_number}
 use Rattle.model_lives.proofs.WithoutAccounts.{IsOfAuthorization, settles_without_accounts, without_accounts}
+use Rattle.model_lives.proofs.{Answering.passes_answer, Listed.KeepsListed, Ready.IsReady, Unlisted.passes_open, Walks.IsNoWork, Cut.at_number, Cut.numbered}
 
 -- ---- by their numbers
 
@@ -74,21 +67,9 @@ minimal_hold T m a h =
           (each _ _ T.orders (λ o e so. e ∙ so) (numbered (λ (o : OrderRow). o.number) (is_needed_order T m a) 1 T.orders h.orders.0));
     }
 
--- where what orders list is needed, no list of orders is asked for
-no_list : (a : Ask) → needs_listed a ≡ true → asks_orders a ≡ false
-no_list (ask.Signed s) h = by s.target h
-  where
-    by : (t : Target) → target_needs_listed t ≡ true → target_orders t ≡ false
-    by (to.Orders k) e = cc
-    by _ e = refl
-no_list _ h = refl
-
 -- and each order is opened
 all_opened : (T : Tables) (m : ℕ) (a : Ask) (o : OrderRow) → needs_listed a ≡ true → is_needed_order T m a o ≡ true → is_opened_order T m a o ≡ true
-all_opened T m a o all h =
-    or_cases (is_opened_order T m a o) _ h (λ opens. opens)
-    (λ e. or_cases (is_named_order a o) _ e (λ named. or_right _ _ (and_from _ _ all named))
-    (λ own. let no : asks_orders a ≡ false = no_list a all in let asked : asks_orders a ≡ true = (and_parts (asks_orders a) _ own).0 in cc))
+all_opened T m a o all h = grind arith
 
 -- so what it lists is kept
 minimal_listed : (T : Tables) (m : ℕ) (a : Ask) → IsOrdered T → needs_listed a ≡ true → KeepsListed (minimal_kept T m a) T
@@ -121,24 +102,12 @@ minimal_holders k T m a needed h =
 
 pub minimal_restated : (k : Kept) (T : Tables) (m : ℕ) (a : Ask) → KeepsHolders (grown k T) T a → Keeps k (minimal_rows T m a) →
     KeepsRestated (changes_statuses a) (grown k T) T m a
-minimal_restated k T m a holders h =
-    record {
-      nonces = each _ _ T.nonces (λ x f so. or_left _ _ (f so)) (each_filtered _ (is_touched_nonce T m a) T.nonces h.nonces);
-      accounts = each _ _ T.accounts (λ x f so. f (or_left _ _ so)) (minimal_accounts k T m a h);
-      authorizations = each _ _ T.authorizations (λ r f so. or_left _ _ (f (or_left _ _ (or_left _ _ so))))
-          (each_filtered _ (is_needed_authorization T m a) T.authorizations h.authorizations);
-      orders = each _ _ T.orders (λ o f so. or_left _ _ (f (or_left _ _ so))) (each_filtered _ (is_needed_order T m a) T.orders h.orders);
-      named = each _ _ T.orders (λ o f so. or_left _ _ (f (or_right (is_opened_order T m a o) _ (or_left _ _ so))))
-          (each_filtered _ (is_needed_order T m a) T.orders h.orders);
-      holders = holders;
-    }
+minimal_restated k T m a holders h = grind (arith, each, each_filtered)
 
 -- what is an account's by the named accounts is so by these
 wider_holder : (T : Tables) (a : Ask) (n : ℕ) → list_any (λ x. is_named_account a x && (n == x.number)) T.accounts ≡ true →
     list_any (λ x. is_needed_account T a x && (n == x.number)) T.accounts ≡ true
-wider_holder T a n h =
-    any_wider (λ x. is_named_account a x && (n == x.number)) (λ x. is_needed_account T a x && (n == x.number)) T.accounts
-    (λ x so. let p = and_parts (is_named_account a x) _ so in and_from _ _ (or_left _ _ p.0) p.1) h
+wider_holder T a n h = grind (arith, any_wider)
 
 minimal_named : (k : Kept) (T : Tables) (m : ℕ) (a : Ask) → Keeps k (minimal_rows T m a) → KeepsRows (grown k T) T a
 minimal_named k T m a h =
@@ -228,11 +197,7 @@ minimal_held T m a none h needed =
     subst (SettlesAs m a T) (grown_part k T) (settles_as (grown k T) T m a none (minimal_ready T m (ask.Office a) h refl needed refl))
 
 pub minimal_settle : (T : Tables) (m : ℕ) (a : OfficeAsk) → IsNoWork a → IsOrdered T → SettlesAs m a T (restricted (minimal_kept T m (ask.Office a)) T)
-minimal_settle T m (office.Report n finding) none h = minimal_without_accounts T m (office.Report n finding) none h tt (λ x. refl)
-minimal_settle T m (office.RevokeAuthz n) none h = minimal_without_accounts T m (office.RevokeAuthz n) none h tt (λ x. refl)
-minimal_settle T m office.ChallengeWork none h = absurd none
-minimal_settle T m office.OrderWork none h = absurd none
-minimal_settle T m a none h = minimal_held T m a none h refl
+minimal_settle T m a h k = grind (arith, minimal_without_accounts, minimal_held)
 
 pub minimal_pass : (T : Tables) (m : ℕ) (s : Signed) → IsOrdered T → IsStatedFor (ask.Signed s) m T → PassesAs m s T (restricted (minimal_kept T m (ask.Signed s)) T)
 minimal_pass T m s h stated =

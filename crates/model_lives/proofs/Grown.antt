@@ -1,25 +1,20 @@
 -- A part with the numbers that no row has: it is the same part, and each number that a call names is kept.
-use Rattle.std.proofs.Common.{◌≡◌, ℕ, ◌+◌, ◌<◌, List, [], ◌∷◌, filter, Option, Some, None, refl, sym, ap, ◌∙◌, true, false, Bool, not, arith, subst}
-use Rattle.std.specs.Prelude.{◌==◌, ◌&&◌, ◌||◌}
-use Rattle.std.specs.List.{list_any}
+use Rattle.std.proofs.Common.{◌≡◌, ℕ, ◌+◌, ◌<◌, List, [], ◌∷◌, filter, Option, Some, None, refl, sym, ap, ◌∙◌, true, false, Bool, not, arith, subst, rules}
 use Rattle.std.proofs.lemmas.Bool.{eqb-true, eq-eqb, and_parts, and_from, or_left, or_right}
-use Rattle.desk_model.specs.{Lookup.holds, Tables.Tables, Rules.nothing}
-use Rattle.desk_model.specs.Derived.{numbers_of, authorization_numbered}
-use Rattle.desk_model.specs.Effect.{lists_one, falls, is_live_order, is_overdue, touches_account, touches_authorization, names_order as entry_names_order}
+use Rattle.std.specs.{Prelude.◌==◌, Prelude.◌&&◌, Prelude.◌||◌, List.list_any}
+use Rattle.desk_model.specs.Effect.{lists_one, falls, is_overdue, touches_account, touches_authorization, names_order as entry_names_order}
 use Rattle.desk_model.specs.Kept.{EachOf, Kept, restricted, IsClosed, Covers, CoversSweep}
-use Rattle.desk_model.specs.declared.{call.Ask.Ask, entry.Entry.Entry, objects.Nonce.Nonce, rows.AccountRow.AccountRow, rows.AuthorizationRow.AuthorizationRow}
-use Rattle.desk_model.specs.declared.{rows.OrderRow.OrderRow, call.Target.Target}
-use Rattle.model_laws.specs.Ordered.{Below, IsOrdered}
-use Rattle.model_laws.proofs.Basics.{each, each_both, less_differs}
-use Rattle.model_laws.proofs.Finds.{each_found, found_passes}
 use Rattle.desk_model.specs.Asked.{carries, has_key, has_new_key, names_account, names_order, names_authorization, names_owner, asks_orders, asked_names}
 use Rattle.desk_model.specs.Touched.{is_touched_nonce, is_touched_account, is_touched_authorization, is_touched_order, is_named_account, is_named_order}
-use Rattle.desk_model.specs.Touched.{is_named_authorization, is_own_order, is_own_authorization, is_asked_authorization, is_first_authorization, is_past_order}
-use Rattle.desk_model.specs.Touched.{lists, touched_rows}
-use Rattle.model_lives.specs.MinimalPart.{is_moved_authorization, needs_listed, changes_statuses}
+use Rattle.desk_model.specs.Touched.{is_named_authorization, is_own_order, is_asked_authorization, is_first_authorization, is_past_order, lists, touched_rows}
+use Rattle.desk_model.specs.{Lookup.holds, Tables.Tables, Rules.nothing, Derived.numbers_of, Derived.authorization_numbered, declared.call.Ask.Ask}
+use Rattle.desk_model.specs.{declared.entry.Entry.Entry, declared.objects.Nonce.Nonce, declared.rows.AccountRow.AccountRow}
+use Rattle.desk_model.specs.{declared.rows.AuthorizationRow.AuthorizationRow, declared.rows.OrderRow.OrderRow, declared.call.Target.Target}
+use Rattle.model_laws.specs.Ordered.{Below, IsOrdered}
+use Rattle.model_laws.proofs.{Basics.each, Basics.each_both, Basics.less_differs, Finds.each_found, Finds.found_passes}
+use Rattle.model_lives.specs.{MinimalPart.is_moved_authorization, MinimalPart.needs_listed, MinimalPart.changes_statuses, IsPart.Keeps}
 use Rattle.desk_model.specs.declared.call.Ask.TheVariants as ask
 use Rattle.desk_model.specs.declared.call.Target.TheVariants as to
-use Rattle.model_lives.specs.IsPart.{Keeps}
 use Rattle.model_lives.proofs.{Listed.KeepsListed, Reusing.KeepsAsked}
 use Rattle.model_lives.proofs.Lists.{any_gives, any_wider, each_filtered, each_member, filter_same, or_cases, same_number}
 
@@ -46,9 +41,7 @@ same_kept number xs kept =
     each _ _ xs (λ x f. by (kept (number x)) (has_number number xs (number x)) (f (λ y. number y == number x) (same_number (number x)))) (each_member xs)
   where
     by : (b c : Bool) → c ≡ true → (b || not c) ≡ b
-    by true c e = refl
-    by false true e = refl
-    by false false e = cc
+    by b c h = grind arith
 
 same_part : {X : Type 0} (number : X → ℕ) (xs : List X) (kept : ℕ → Bool) →
     filter (λ x. with_others number xs kept (number x)) xs ≡ filter (λ x. kept (number x)) xs
@@ -78,18 +71,13 @@ new_kept number last xs kept h n lt = or_right (kept n) (not (has_number number 
 
 -- it is closed
 pub grown_closed : (k : Kept) (T : Tables) → IsOrdered T → KeepsListed k T → IsClosed (grown k T) T
-grown_closed k T ordered listed =
-    record {
-      listed =
-          each _ _ T.orders
-          (λ o f yes. each _ _ (numbers_of o.listed) (λ n h. or_left _ _ h) (f.1 (sym f.0 ∙ yes)))
-          (each_both _ _ T.orders (same_kept (λ (o : OrderRow). o.number) T.orders k.orders) listed);
-      new_nonces = new_kept (λ (n : Nonce). n.serial) T.meta.counters.nonces T.nonces k.nonces ordered.nonces.1;
-      new_accounts = new_kept (λ (a : AccountRow). a.number) T.meta.counters.accounts T.accounts k.accounts ordered.accounts.1;
-      new_authorizations = new_kept (λ (a : AuthorizationRow). a.number) T.meta.counters.authorizations T.authorizations k.authorizations
-          ordered.authorizations.1;
-      new_orders = new_kept (λ (o : OrderRow). o.number) T.meta.counters.orders T.orders k.orders ordered.orders.1;
-    }
+grown_closed k T ordered listed = record {
+  listed = each _ _ T.orders (λ o f yes. each _ _ (numbers_of o.listed) (λ n h. or_left _ _ h) (f.1 (sym f.0 ∙ yes))) (each_both _ _ T.orders (same_kept (λ (o : OrderRow). o.number) T.orders k.orders) listed);
+  new_nonces = search (rules, new_kept);
+  new_accounts = search (rules, new_kept);
+  new_authorizations = search (rules, new_kept);
+  new_orders = search (rules, new_kept);
+}
 
 -- ---- what is kept of the rows that a call touches
 
@@ -156,42 +144,21 @@ pub record KeepsRows (k : Kept) (T : Tables) (a : Ask) : Type 0 where
   pub own : EachOf (λ o. is_own_order T a o ≡ true → k.orders o.number ≡ true) T.orders
 
 pub keeps_named : (k : Kept) (T : Tables) (a : Ask) → KeepsRows (grown k T) T a → KeepsNamed (grown k T) T a
-keeps_named k T a h =
-    record {
-      nonce = kept_number (λ (n : Nonce). n.serial) T.nonces k.nonces (carries a) h.nonces;
-      key = each _ _ T.accounts (λ x f yes. f (or_left _ _ yes)) h.accounts;
-      new_key = each _ _ T.accounts (λ x f yes. f (or_right (has_key a x.key) _ (or_left _ _ yes))) h.accounts;
-      account =
-          kept_number (λ (x : AccountRow). x.number) T.accounts k.accounts (names_account a)
-          (each _ _ T.accounts (λ x f yes. f (or_right (has_key a x.key) _ (or_right (has_new_key a x.key) _ yes))) h.accounts);
-      order = kept_number (λ (o : OrderRow). o.number) T.orders k.orders (names_order a) h.orders;
-      authorization =
-          kept_number (λ (r : AuthorizationRow). r.number) T.authorizations k.authorizations (names_authorization a)
-          (each _ _ T.authorizations (λ r f yes. f (or_left _ _ yes)) h.authorizations);
-      owner = each _ _ T.authorizations (λ r f yes. f (or_right (names_authorization a r.number) _ yes)) h.authorizations;
-      orders =
-          each _ _ T.accounts
-          (λ x member named. each _ _ T.orders (λ o f asked same. f (and_from _ _ asked
-          (member (λ y. is_named_account a y && (o.account == y.number)) (and_from _ _ named same)))) h.own) (each_member T.accounts);
-      asked =
-          each _ _ T.accounts
-          (λ x member named. each _ _ T.authorizations (λ r f asks same. f (and_from _ _ asks
-          (member (λ y. is_named_account a y && (r.account == y.number)) (and_from _ _ named same)))) h.asked) (each_member T.accounts);
-    }
+keeps_named k T a h = record {
+  nonce = kept_number (λ (n : Nonce). n.serial) T.nonces k.nonces (carries a) h.nonces;
+  key = each _ _ T.accounts (λ x f yes. f (or_left _ _ yes)) h.accounts;
+  new_key = grind (arith, each);
+  account = kept_number (λ (x : AccountRow). x.number) T.accounts k.accounts (names_account a) (each _ _ T.accounts (λ x f yes. f (or_right (has_key a x.key) _ (or_right (has_new_key a x.key) _ yes))) h.accounts);
+  order = kept_number (λ (o : OrderRow). o.number) T.orders k.orders (names_order a) h.orders;
+  authorization = kept_number (λ (r : AuthorizationRow). r.number) T.authorizations k.authorizations (names_authorization a) (each _ _ T.authorizations (λ r f yes. f (or_left _ _ yes)) h.authorizations);
+  owner = grind (arith, each);
+  orders = each _ _ T.accounts (λ x member named. each _ _ T.orders (λ o f asked same. f (and_from _ _ asked (member (λ y. is_named_account a y && (o.account == y.number)) (and_from _ _ named same)))) h.own) (each_member T.accounts);
+  asked = each _ _ T.accounts (λ x member named. each _ _ T.authorizations (λ r f asks same. f (and_from _ _ asks (member (λ y. is_named_account a y && (r.account == y.number)) (and_from _ _ named same)))) h.asked) (each_member T.accounts);
+}
 
 -- what is touched has the rows that are named
 pub keeps_rows : (k : Kept) (T : Tables) (m : ℕ) (a : Ask) → KeepsTouched k T m a → KeepsRows k T a
-keeps_rows k T m a h =
-    record {
-      nonces = each _ _ T.nonces (λ x f yes. f (or_left _ _ yes)) h.nonces;
-      accounts = each _ _ T.accounts (λ x f yes. f (or_left _ _ yes)) h.accounts;
-      authorizations = each _ _ T.authorizations (λ r f yes. f (or_left _ _ (or_left _ _ yes))) h.authorizations;
-      asked = each _ _ T.authorizations
-          (λ r f yes. f (or_right (is_first_authorization T m a r) _ (or_right (list_any (λ o. is_touched_order T m a o && lists o r.number) T.orders) _ yes)))
-          h.authorizations;
-      orders = each _ _ T.orders (λ o f yes. f (or_left _ _ (or_left _ _ yes))) h.orders;
-      own = each _ _ T.orders (λ o f yes. f (or_left _ _ (or_right (is_named_order a o) _ (or_left _ _ yes)))) h.orders;
-    }
+keeps_rows k T m a h = grind (arith, each)
 
 -- ---- what is kept of the rows whose statuses may change
 
@@ -229,21 +196,11 @@ pub record KeepsRestated (b : Bool) (k : Kept) (T : Tables) (m : ℕ) (a : Ask) 
 -- an order that lists a row of a test lists one of each wider test
 wider : (p q : AuthorizationRow → Bool) (o : OrderRow) (rows : List AuthorizationRow) → ((r : AuthorizationRow) → p r ≡ true → q r ≡ true) →
     list_any (λ r. p r && lists o r.number) rows ≡ true → list_any (λ r. q r && lists o r.number) rows ≡ true
-wider p q o rows f h =
-    any_wider (λ r. p r && lists o r.number) (λ r. q r && lists o r.number) rows
-    (λ r yes. let both = and_parts (p r) (lists o r.number) yes in and_from _ _ (f r both.0) both.1) h
-
--- what moves is touched first
-moved_first : (T : Tables) (m : ℕ) (a : Ask) (r : AuthorizationRow) → is_moved_authorization T a r ≡ true → is_first_authorization T m a r ≡ true
-moved_first T m a r h =
-    or_cases (is_named_authorization a r) _ h (λ named. or_left _ _ named)
-    (λ own. or_right (is_named_authorization a r) _ (or_left _ _ (and_parts (changes_statuses a) _ own).1))
+wider p q o rows f h = grind (arith, any_wider)
 
 -- and so is what may change its status
 restated_first : (b : Bool) (T : Tables) (m : ℕ) (a : Ask) (r : AuthorizationRow) → is_restated_by b T m a r ≡ true → is_first_authorization T m a r ≡ true
-restated_first b T m a r h =
-    or_cases (is_overdue m r) _ h (λ past. or_right (is_named_authorization a r) _ (or_right (is_own_authorization T a r) _ past))
-    (λ moved. moved_first T m a r (and_parts b _ moved).1)
+restated_first b T m a r h = grind arith
 
 -- the orders of these are touched
 opened_touched : (b : Bool) (T : Tables) (m : ℕ) (a : Ask) (o : OrderRow) → is_opened_by b T m a o ≡ true → is_touched_order T m a o ≡ true
@@ -255,15 +212,7 @@ opened_touched b T m a o h =
 
 -- so what is touched has all of it
 pub keeps_restated : (b : Bool) (k : Kept) (T : Tables) (m : ℕ) (a : Ask) → KeepsTouched k T m a → KeepsRestated b k T m a
-keeps_restated b k T m a h =
-    record {
-      nonces = h.nonces;
-      accounts = each _ _ T.accounts (λ x f yes. f (or_left _ _ yes)) h.accounts;
-      authorizations = each _ _ T.authorizations (λ r f yes. f (or_left _ _ (restated_first b T m a r yes))) h.authorizations;
-      orders = each _ _ T.orders (λ o f yes. f (opened_touched b T m a o yes)) h.orders;
-      named = each _ _ T.orders (λ o f yes. f (or_left _ _ (or_left _ _ yes))) h.orders;
-      holders = each _ _ T.authorizations (λ r f yes. f (or_left _ _ (moved_first T m a r yes))) h.holders;
-    }
+keeps_restated b k T m a h = search (rules, each, restated_first, opened_touched)
 
 -- ---- what falls, and what an entry touches
 
@@ -305,9 +254,7 @@ keeps_falling b k T m a h =
     by : (o : OrderRow) → (is_opened_by b T m a o ≡ true → k.orders o.number ≡ true) →
         (lists_one (is_overdue m) T.authorizations (numbers_of o.listed) ≡ true → k.orders o.number ≡ true) →
         falls m T.authorizations o ≡ true → k.orders o.number ≡ true
-    by o f g so =
-        let p = and_parts (is_live_order o.status) _ so in
-        or_cases _ _ p.1 (λ past. f (or_left _ _ (or_left _ _ (and_from _ _ p.0 past)))) g
+    by g e i l = grind arith
 
 -- the entry touches what the ask names, and authorizations alone whose statuses may change by the ask
 pub record IsNamedBy (T : Tables) (a : Ask) (e : Entry) : Type 0 where

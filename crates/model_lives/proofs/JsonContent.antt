@@ -1,11 +1,8 @@
 -- What a string of a UTF-8 text stands for is UTF-8 (RFC 8259, 7).
 use Rattle.std.proofs.Common.{◌≡◌, ℕ, zero, suc, ◌+◌, ◌*◌, ◌<◌, ◌≤◌, List, [], ◌∷◌, ◌++◌, length, Option, Some, None, IsUtf8, IfSome, refl, sym, subst, Bool}
 use Rattle.std.proofs.Common.{true, false, cond, arith, append-nil, append_assoc, encode_utf8}
-use Rattle.std.specs.Prelude.{◌==◌, ◌&&◌, ◌||◌, nat_lt, option_and_then}
-use Rattle.std.specs.Char.{IsScalar, digit_value, is_digit}
-use Rattle.std.proofs.lemmas.Bool.Decides.{nat_tests}
-use Rattle.std.proofs.lemmas.Bool.{and_parts, eqb-true, ltb-true, lt-ltb}
-use Rattle.std.proofs.lemmas.Str.{IsUtf8-append, IsUtf8-encode}
+use Rattle.std.proofs.lemmas.{Bool.Decides.nat_tests, Bool.and_parts, Bool.eqb-true, Bool.ltb-true, Bool.lt-ltb, Str.IsUtf8-append, Str.IsUtf8-encode}
+use Rattle.std.specs.{Prelude.◌==◌, Prelude.◌&&◌, Prelude.nat_lt, Prelude.option_and_then, Char.IsScalar, Char.digit_value, Char.is_digit}
 use Rattle.model_laws.proofs.AsciiTexts.{ascii_text, parted}
 use Rattle.json.specs.Text.{content, plain, after_backslash, after_u, after_high, code_unit, short_escape, is_high_surrogate, is_low_surrogate, surrogate_pair}
 use Rattle.json.specs.Text.{prepend}
@@ -22,36 +19,16 @@ IsTextBehind front o = IfSome o (λ s. IsUtf8 (front ++ s))
 
 -- a text behind a text
 behind : (front : List ℕ) (o : Option (List ℕ)) → IsUtf8 front → IsTextBehind [] o → IsTextBehind front o
-behind front None text h = tt
-behind front (Some s) text h = IsUtf8-append front s text h
+behind front o h k = grind (arith, IsUtf8-append)
 
 -- and with it
 prepended : (front bytes : List ℕ) (o : Option (List ℕ)) → IsTextBehind (front ++ bytes) o → IsTextBehind front (prepend bytes o)
-prepended front bytes None h = tt
-prepended front bytes (Some s) h = subst IsUtf8 (append_assoc front bytes s) h
-
--- a letter behind a backslash, and the byte that it stands for
-named : (x k c : ℕ) (o : Option ℕ) → k < 128 → c < 128 → IfSome o (λ d. (x < 128) × (d < 128)) → IfSome (cond (x == k) (Some c) o) (λ d. (x < 128) × (d < 128))
-named x k c o low small other = by (x == k) refl
-  where
-    by : (b : Bool) → (x == k) ≡ b → IfSome (cond b (Some c) o) (λ d. (x < 128) × (d < 128))
-    by true is = let same : x ≡ k = eqb-true x k is in (omega arith, small)
-    by false is = other
+prepended front bytes o h = grind (arith, append_assoc)
 
 -- a byte behind a backslash and what it stands for are ASCII
 short_ascii : (x : ℕ) → IfSome (short_escape x) (λ c. (x < 128) × (c < 128))
 unfolding short_escape
-short_ascii x = by ((x == 34) || (x == 92) || (x == 47)) refl
-  where
-    by : (b : Bool) → ((x == 34) || (x == 92) || (x == 47)) ≡ b →
-        IfSome (cond b (Some x)
-        (cond (x == 98) (Some 8)
-        (cond (x == 102) (Some 12) (cond (x == 110) (Some 10) (cond (x == 114) (Some 13) (cond (x == 116) (Some 9) None))))))
-        (λ c. (x < 128) × (c < 128))
-    by true is = let low : x < 128 = grind (arith, nat_tests) in (low, low)
-    by false is =
-        named x 98 8 _ (omega arith) (omega arith) (named x 102 12 _ (omega arith) (omega arith) (named x 110 10 _ (omega arith) (omega arith)
-        (named x 114 13 _ (omega arith) (omega arith) (named x 116 9 _ (omega arith) (omega arith) tt))))
+short_ascii x = grind arith
 
 -- a hex digit is ASCII, and its value is below 16
 pub record IsHex (x : ℕ) : Type 0 where

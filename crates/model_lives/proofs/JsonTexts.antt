@@ -1,11 +1,9 @@
 -- The strings of a value that is read in a UTF-8 text are UTF-8.
-use Rattle.std.proofs.Common.{ℕ, zero, suc, List, [], ◌∷◌, length, Option, Some, None, option_map, option_and_then, IsUtf8, IfSome, Ordering, Less, Equal}
-use Rattle.std.proofs.Common.{Greater}
-use Rattle.std.specs.Ordering.{match_ordering}
+use Rattle.std.proofs.Common.{ℕ, zero, suc, List, length, Option, Some, None, option_map, option_and_then, IsUtf8, IfSome, arith}
 use Rattle.desk_model.specs.Kept.{EachOf}
 use Rattle.json.specs.{Token.Token, Lex.tokens}
-use Rattle.json.specs.Json as json
 use Rattle.json.specs.Json.{Parse, parse_map, after_end_array, read_key, items_step, members_step, value_with}
+use Rattle.json.specs.Json as json
 use Rattle.serde_json.specs.Data.{Data, number, string, array, object, Items, no_items, item, Members, no_members, member, put}
 use Rattle.serde_json.specs.Read.{max_depth, number_of, of_items, of_json, of_members, read}
 use Rattle.model_lives.proofs.JsonTokens.{IsTextToken, tokens_texts}
@@ -15,19 +13,16 @@ use Rattle.model_lives.proofs.JsonTokens.{IsTextToken, tokens_texts}
 -- what holds of a value under a function
 pub map_holds : {A B : Type 0} (P : A → Type 0) (Q : B → Type 0) (f : A → B) → ((a : A) → P a → Q (f a)) → (o : Option A) → IfSome o P →
     IfSome (option_map f o) Q
-map_holds P Q f more None h = tt
-map_holds P Q f more (Some a) h = more a h
+map_holds P Q f h o k = grind arith
 
 -- and under one that may fail
 pub then_holds : {A B : Type 0} (P : A → Type 0) (Q : B → Type 0) (f : A → Option B) → ((a : A) → P a → IfSome (f a) Q) → (o : Option A) → IfSome o P →
     IfSome (option_and_then f o) Q
-then_holds P Q f more None h = tt
-then_holds P Q f more (Some a) h = more a h
+then_holds P Q f h o k = grind arith
 
 -- nothing is asked of a value
 any : {A : Type 0} (o : Option A) → IfSome o (λ a. Unit {0})
-any None = tt
-any (Some a) = tt
+any o = grind arith
 
 -- ---- trees
 
@@ -55,28 +50,18 @@ Gives P o = IfSome o (λ p. P p.0 × EachOf IsTextToken p.1)
 abbrev Parses : {A : Type 0} → (A → Type 0) → Parse A → Type 0
 Parses P parse = (ts : List Token) → EachOf IsTextToken ts → Gives P (parse ts)
 
--- under a function
-mapped : {A B : Type 0} (P : A → Type 0) (Q : B → Type 0) (f : A → B) → ((a : A) → P a → Q (f a)) → (o : Option (A × List Token)) → Gives P o →
-    Gives Q (parse_map f o)
-mapped P Q f more None h = tt
-mapped P Q f more (Some p) h = (more p.0 h.0, h.1)
-
 -- a tree, and what is parsed behind it
 and_more : {B : Type 0} (Q : B → Type 0) (f : json.Json → B → B) → ((j : json.Json) (b : B) → IsTextTree j → Q b → Q (f j b)) → (more : Parse B) →
     Parses Q more → (o : Option (json.Json × List Token)) → Gives IsTextTree o → Gives Q (option_and_then (λ q. parse_map (f q.0) (more q.1)) o)
-and_more Q f both more parses None h = tt
-and_more Q f both more parses (Some q) h = mapped Q Q (f q.0) (λ b k. both q.0 b h.0 k) (more q.1) (parses q.1 h.1)
+and_more Q f h more k o l = grind arith
 
 -- the tokens behind an array
 array_end : (ts : List Token) → EachOf IsTextToken ts → IfSome (after_end_array ts) (EachOf IsTextToken)
-array_end (Token.end_array ∷ ts) h = h.1
-array_end _ h = tt
+array_end ts h = grind arith
 
 -- a key, if there is one more
 key_texts : Parses (λ k. IfSome k IsUtf8) read_key
-key_texts (Token.end_object ∷ ts) h = (tt, h.1)
-key_texts (Token.key s ∷ ts) h = h
-key_texts _ h = tt
+key_texts h l = grind arith
 
 module _ (parse : Parse json.Json) (parses : Parses IsTextTree parse) where
   -- an item of an array
@@ -106,13 +91,7 @@ module _ (parse : Parse json.Json) (parses : Parses IsTextTree parse) where
 
 -- one level of a tree
 level_texts : (a : Parse json.Items) (o : Parse json.Members) → Parses AreTextTrees a → Parses HoldTextTrees o → Parses IsTextTree (value_with a o)
-level_texts a o p q (Token.begin_object ∷ ts) h = mapped HoldTextTrees IsTextTree json.object (λ ms k. k) (o ts) (q ts h.1)
-level_texts a o p q (Token.begin_array ∷ ts) h = mapped AreTextTrees IsTextTree json.array (λ js k. k) (a ts) (p ts h.1)
-level_texts a o p q (Token.string s ∷ ts) h = h
-level_texts a o p q (Token.number s ∷ ts) h = h
-level_texts a o p q (Token.boolean b ∷ ts) h = h
-level_texts a o p q (Token.null ∷ ts) h = h
-level_texts a o p q _ h = tt
+level_texts a o h k l g = grind arith
 
 -- the tree of some tokens
 tree_texts : (depth : ℕ) → Parses IsTextTree (json.value depth)
@@ -143,13 +122,7 @@ abbrev mutual
 -- the members with one more
 put_strings : (k : List ℕ) (d : Data) (ms : Members) → IsUtf8 k → HoldsStrings d → HoldMemberStrings ms → HoldMemberStrings (put k d ms)
 put_strings k d no_members p q h = (p, q, tt)
-put_strings k d (member l e ms) p q h = by _ (put_strings k d ms p q h.2)
-  where
-    by : (o : Ordering) → HoldMemberStrings (put k d ms) →
-        HoldMemberStrings (match_ordering o (member k d (member l e ms)) (member l d ms) (member l e (put k d ms)))
-    by Less more = (p, q, h)
-    by Equal more = (h.0, q, h.2)
-    by Greater more = (h.0, h.1, more)
+put_strings k d (member l e ms) p q h = grind (arith, (put_strings k d ms p q h.2))
 
 mutual
   -- the value of a tree
@@ -175,9 +148,7 @@ mutual
 
 -- a tree with nothing behind it
 last_tree : (o : Option (json.Json × List Token)) → Gives IsTextTree o → IfSome (option_and_then (λ p. json.if_last p.0 p.1) o) IsTextTree
-last_tree None h = tt
-last_tree (Some (j, [])) h = h.0
-last_tree (Some (j, t ∷ ts)) h = tt
+last_tree o h = grind arith
 
 -- the value that a text is
 pub read_strings : (text : List ℕ) → IsUtf8 text → IfSome (read text) HoldsStrings

@@ -1,41 +1,34 @@
 -- The list of an account's orders is answered from summaries of orders, but for those that fall.
-use Rattle.std.proofs.Common.{◌≡◌, ℕ, List, [], ◌∷◌, ◌++◌, map, filter, Option, Some, None, refl, sym, ap, subst, ◌∙◌, true, false, Bool, cond, Result, Ok, Err}
+use Rattle.std.proofs.Common.{◌≡◌, ℕ, List, [], ◌∷◌, ◌++◌, map, filter, Option, Some, None, refl, sym, ap, subst, ◌∙◌, true, false, Bool, cond, arith}
+use Rattle.std.proofs.lemmas.Bool.{or_left, or_right}
 use Rattle.std.specs.Prelude.{◌==◌, codes}
-use Rattle.std.proofs.lemmas.Bool.{and_parts, or_left, or_right}
 use Rattle.serde_json.specs.Data.{string}
-use Rattle.desk_model.specs.{Account.is_valid as is_valid_account, Decide.entries_of, Questions.account_with_key, Tables.Tables, Touched.is_named_order}
-use Rattle.desk_model.specs.Asked.{asks_orders, target_orders}
-use Rattle.desk_model.specs.Change.{all_changes, nonces_gone, recorded_changes, sweep_changes}
-use Rattle.desk_model.specs.Document.{is_listed, order_url}
 use Rattle.desk_model.specs.Effect.{effects, falls, is_overdue, swept, swept_authorization}
-use Rattle.desk_model.specs.Json.{document, list}
-use Rattle.desk_model.specs.Kept.{EachOf, Kept, restricted}
-use Rattle.desk_model.specs.Rules.{key_verdict, nothing, open_nonce, signed_verdict}
-use Rattle.desk_model.specs.Shown.{ok, reply_of}
-use Rattle.desk_model.specs.declared.{call.Ask.Ask, call.BadKey.BadKey, call.Signed.Signed, call.Target.Target, rows.AccountRow.AccountRow}
-use Rattle.desk_model.specs.declared.{rows.AuthorizationRow.AuthorizationRow, rows.OrderRow.OrderRow, verdict.Verdict.Verdict}
+use Rattle.desk_model.specs.{Account.is_valid as is_valid_account, Decide.entries_of, Tables.Tables, Touched.is_named_order, Asked.asks_orders}
+use Rattle.desk_model.specs.{Asked.target_orders, Change.all_changes, Change.nonces_gone, Change.recorded_changes, Change.sweep_changes, Document.is_listed}
+use Rattle.desk_model.specs.{Document.order_url, Json.document, Json.list, Kept.EachOf, Kept.Kept, Kept.restricted, Rules.key_verdict, Rules.nothing}
+use Rattle.desk_model.specs.{Rules.open_nonce, Rules.signed_verdict, Shown.ok, Shown.reply_of}
+use Rattle.desk_model.specs.declared.{call.Ask.Ask, call.Signed.Signed, call.Target.Target, rows.AccountRow.AccountRow, rows.AuthorizationRow.AuthorizationRow}
+use Rattle.desk_model.specs.declared.{rows.OrderRow.OrderRow, verdict.Verdict.Verdict, entry.Entry.TheVariants.Issued as issued}
+use Rattle.desk_model.specs.declared.{entry.Entry.TheVariants.Spent as spent, rows.Change.TheVariants.PutAuthorization, rows.Change.TheVariants.PutMeta}
+use Rattle.desk_model.specs.declared.{rows.Change.TheVariants.PutOrder, rows.Change.TheVariants.RemoveNonce, verdict.Verdict.TheVariants.Refused as refused}
+use Rattle.desk_model.specs.declared.{verdict.Verdict.TheVariants.KeyTaken as key_taken, verdict.Verdict.TheVariants.Answers as answers}
 use Rattle.desk_model.specs.declared.call.Ask.TheVariants as ask
 use Rattle.desk_model.specs.declared.call.Target.TheVariants as to
-use Rattle.desk_model.specs.declared.entry.Entry.TheVariants.{Issued as issued, Spent as spent}
 use Rattle.desk_model.specs.declared.refusal.Refusal.TheVariants as refusal
-use Rattle.desk_model.specs.declared.rows.Change.TheVariants.{PutAuthorization, PutMeta, PutOrder, RemoveNonce}
 use Rattle.desk_model.specs.declared.status.AuthzStatus.TheVariants as authz
 use Rattle.desk_model.specs.declared.status.OrderStatus.TheVariants as order
 use Rattle.desk_model.specs.declared.verdict.Listing.TheVariants as listing
 use Rattle.desk_model.specs.declared.verdict.Shows.TheVariants as show
-use Rattle.desk_model.specs.declared.verdict.Verdict.TheVariants.{Refused as refused, KeyTaken as key_taken, Answers as answers}
 use Rattle.model_laws.specs.Ordered.{IsOrdered}
 use Rattle.model_laws.proofs.Basics.{each, each_both}
 use Rattle.model_lives.specs.AnswersAs.{CarriesOutAs, PassesAs}
 use Rattle.model_lives.specs.MinimalPart.{is_needed_order, is_opened_order, is_whole_order, needs_holders, changes_statuses}
 use Rattle.model_lives.specs.Thinned.{Thinning, all_challenges, thin, thinned, whole_if, with_orders}
-use Rattle.model_lives.proofs.{Between.bare, Steps.check_keeps, Verdicts.verdict_by}
-use Rattle.model_lives.proofs.Cut.{at_number, numbered}
-use Rattle.model_lives.proofs.Fewer.{minimal_hold, minimal_holders, minimal_kept, minimal_restated}
-use Rattle.model_lives.proofs.Grown.{KeepsRestated, grown, grown_part, keeps_falling}
-use Rattle.model_lives.proofs.Lists.{filtered_each, or_cases}
-use Rattle.model_lives.proofs.Thin.{KeepsFallingWhole, carries_thin, falls_thin, swept_thin, whole_authorizations}
-use Rattle.model_lives.proofs.Unlisted.{falls_open, issued_bare, nonces_bare}
+use Rattle.model_lives.proofs.{Between.bare, Steps.check_keeps, Cut.at_number, Cut.numbered, Fewer.minimal_hold, Fewer.minimal_holders, Fewer.minimal_kept}
+use Rattle.model_lives.proofs.{Fewer.minimal_restated, Grown.KeepsRestated, Grown.grown, Grown.grown_part, Grown.keeps_falling, Lists.filtered_each}
+use Rattle.model_lives.proofs.{Thin.KeepsFallingWhole, Thin.carries_thin, Thin.swept_thin, Thin.whole_authorizations, Unlisted.falls_open, Unlisted.issued_bare}
+use Rattle.model_lives.proofs.{Unlisted.nonces_bare}
 
 -- ---- what it records
 
@@ -51,16 +44,7 @@ orders_whole l (o ∷ os) h = λ i. order_whole l o h.0 i ∷ orders_whole l os 
 falling_thin : (l : ℕ → Bool) (m : ℕ) (rows : List AuthorizationRow) (os : List OrderRow) → EachOf (λ o. falls m rows o ≡ true → l o.number ≡ true) os →
     filter (falls m rows) (map (with_orders l) os) ≡ filter (falls m rows) os
 falling_thin l m rows [] k = refl
-falling_thin l m rows (o ∷ os) k =
-    ap (λ b. cond b (with_orders l o ∷ filter (falls m rows) (map (with_orders l) os)) (filter (falls m rows) (map (with_orders l) os)))
-    (ap (λ rows. falls m rows (with_orders l o)) (sym (whole_authorizations rows)) ∙ falls_thin all_challenges l m rows o k.0)
-    ∙ by (falls m rows o) k.0 (falling_thin l m rows os k.1)
-  where
-    by : (b : Bool) → (b ≡ true → l o.number ≡ true) → filter (falls m rows) (map (with_orders l) os) ≡ filter (falls m rows) os →
-        cond b (with_orders l o ∷ filter (falls m rows) (map (with_orders l) os)) (filter (falls m rows) (map (with_orders l) os))
-        ≡ cond b (o ∷ filter (falls m rows) os) (filter (falls m rows) os)
-    by true kept ih = λ i. order_whole l o (kept refl) i ∷ ih i
-    by false kept ih = ih
+falling_thin l m rows (o ∷ os) k = grind (arith, (falling_thin l m rows os k.1))
 
 module _ (l : ℕ → Bool) (m : ℕ) (P : Tables) (kept : KeepsFallingWhole l m P) where
   -- the rows, with these orders whole
@@ -134,38 +118,13 @@ key_lists S r key p j (Some x) =
     check_keeps IsList (nothing p) refusal.Malformed _ tt (λ none. tt)))
 
 lists : (S : Tables) (r : List ℕ) (s : Signed) (j : ℕ) → IsList (signed_verdict S r (record s { target = to.Orders j }))
-lists S r s j = by s.key
-  where
-    by : (key : Result (List ℕ) BadKey) → IsList (verdict_by S r (record s { target = to.Orders j }) key)
-    by (Err why) = tt
-    by (Ok key) = key_lists S r key s.payload j (account_with_key S key)
-
--- which asks nothing of orders
-key_same : (l : ℕ → Bool) (S : Tables) (r key p : List ℕ) (j : ℕ) (o : Option AccountRow) →
-    key_verdict (thin all_challenges l S) r key p (to.Orders j) o ≡ key_verdict S r key p (to.Orders j) o
-key_same l S r key p j None = refl
-key_same l S r key p j (Some x) = refl
-
-verdict_same : (l : ℕ → Bool) (S : Tables) (r : List ℕ) (s : Signed) (j : ℕ) →
-    signed_verdict (thin all_challenges l S) r (record s { target = to.Orders j }) ≡ signed_verdict S r (record s { target = to.Orders j })
-verdict_same l S r s j = by s.key
-  where
-    by : (key : Result (List ℕ) BadKey) →
-        verdict_by (thin all_challenges l S) r (record s { target = to.Orders j }) key ≡ verdict_by S r (record s { target = to.Orders j }) key
-    by (Err why) = refl
-    by (Ok key) = key_same l S r key s.payload j (account_with_key S key)
+lists S r s j = grind (arith, key_lists)
 
 -- ---- the request
 
 carried_list : (T P : Tables) (m : ℕ) (l : ℕ → Bool) (v : Verdict) → KeepsFallingWhole l m P → IsList v → CarriesOutAs m T P v →
     CarriesOutAs m T (thin all_challenges l P) v
-carried_list T P m l (refused why ss) kept is h = carries_thin T P m (refused why ss) all_challenges l (swept_thin all_challenges l m P kept) (λ index. refl) h
-carried_list T P m l (key_taken account) kept is h =
-    carries_thin T P m (key_taken account) all_challenges l (swept_thin all_challenges l m P kept) (λ index. refl) h
-carried_list T P m l (answers (show.List (listing.Orders n))) kept is h =
-    carries_thin T P m (answers (show.List (listing.Orders n))) all_challenges l (swept_thin all_challenges l m P kept)
-    (λ index. orders_document_thin l (swept m P) n) h
-carried_list T P m l _ kept is h = absurd is
+carried_list T P m l v h k g = grind (arith, carries_thin, swept_thin, orders_document_thin)
 
 list_records : (l : ℕ → Bool) (m : ℕ) (P : Tables) (v : Verdict) → KeepsFallingWhole l m P → IsList v → (n : ℕ) (fresh : List ℕ) →
     recorded_changes m (thin all_challenges l P) (spent n ∷ issued fresh ∷ entries_of v) ≡ recorded_changes m P (spent n ∷ issued fresh ∷ entries_of v)
@@ -177,18 +136,13 @@ list_records l m P _ kept is n fresh = absurd is
 -- rows that answer it answer it so
 pub passes_alone : (T P : Tables) (m : ℕ) (s : Signed) (j : ℕ) (l : ℕ → Bool) → KeepsFallingWhole l m P → PassesAs m (record s { target = to.Orders j }) T P →
     PassesAs m (record s { target = to.Orders j }) T (thin all_challenges l P)
-passes_alone T P m s j l kept h =
-    record {
-      nonce = ap (λ S. open_nonce S s.nonce) (swept_thin all_challenges l m P kept) ∙ h.nonce;
-      issues = record { records = λ r. issued_same l m P kept r ∙ h.issues.records r };
-      judged = λ r.
-          ap (λ S. signed_verdict S r (record s { target = to.Orders j })) (swept_thin all_challenges l m P kept) ∙ verdict_same l (swept m P) r s j
-          ∙ h.judged r;
-      verdict = λ r. carried_list T P m l (signed_verdict (swept m T) r (record s { target = to.Orders j })) kept (lists (swept m T) r s j) (h.verdict r);
-      records = λ r n fresh.
-          list_records l m P (signed_verdict (swept m T) r (record s { target = to.Orders j })) kept (lists (swept m T) r s j) n fresh
-          ∙ h.records r n fresh;
-    }
+passes_alone T P m s j l kept h = record {
+  nonce = ap (λ S. open_nonce S s.nonce) (swept_thin all_challenges l m P kept) ∙ h.nonce;
+  issues = record { records = λ r. issued_same l m P kept r ∙ h.issues.records r };
+  judged = grind arith;
+  verdict = grind (arith, carried_list, lists);
+  records = λ r n fresh. list_records l m P (signed_verdict (swept m T) r (record s { target = to.Orders j })) kept (lists (swept m T) r s j) n fresh ∙ h.records r n fresh;
+}
 
 -- ---- what is needed of the few rows
 
@@ -215,10 +169,7 @@ all_needed T m a h none =
     }
   where
     whole : (o : OrderRow) → is_needed_order T m a o ≡ true → is_whole_order T m a o ≡ true
-    whole o few =
-        or_cases (is_opened_order T m a o) _ few (λ opens. or_left _ _ opens)
-        (λ e. or_cases (is_named_order a o) _ e (λ named. or_right (is_opened_order T m a o) _ named)
-        (λ own. let asked : asks_orders a ≡ true = (and_parts (asks_orders a) _ own).0 in cc))
+    whole k l = grind arith
 
 -- what falls is needed whole
 pub falling_needed : (T : Tables) (m : ℕ) (a : Ask) → IsOrdered T → needs_holders a ≡ true →

@@ -1,8 +1,7 @@
 -- Tests on lists.
-use Rattle.std.proofs.Common.{◌≡◌, ℕ, List, [], ◌∷◌, filter, refl, sym, true, false, Bool, cond}
-use Rattle.std.specs.Prelude.{◌==◌, ◌||◌}
-use Rattle.std.specs.List.{list_any}
+use Rattle.std.proofs.Common.{◌≡◌, ℕ, List, [], ◌∷◌, filter, refl, sym, true, false, Bool, cond, arith}
 use Rattle.std.proofs.lemmas.Bool.{eqb-true, eq-eqb, or_left, or_right}
+use Rattle.std.specs.{Prelude.◌==◌, Prelude.◌||◌, List.list_any}
 use Rattle.desk_model.specs.Kept.{EachOf}
 use Rattle.model_laws.proofs.Basics.{each}
 
@@ -10,8 +9,7 @@ use Rattle.model_laws.proofs.Basics.{each}
 
 -- by either test
 pub or_cases : {A : Type 0} (a b : Bool) → (a || b) ≡ true → (a ≡ true → A) → (b ≡ true → A) → A
-or_cases true b h f g = f refl
-or_cases false b h f g = g h
+or_cases a b h k l = grind arith
 
 pub same_number : (n : ℕ) → (n == n) ≡ true
 same_number n = eq-eqb n n refl
@@ -33,21 +31,12 @@ any_gives p (x ∷ xs) h k = or_cases (p x) (list_any p xs) h k.0 (λ e. any_giv
 -- what holds of the items that a test leaves
 pub each_filtered : {X : Type 0} (P : X → Type 0) (p : X → Bool) (xs : List X) → EachOf P (filter p xs) → EachOf (λ x. p x ≡ true → P x) xs
 each_filtered P p [] h = tt
-each_filtered P p (x ∷ xs) h = by (p x) refl h (each_filtered P p xs)
-  where
-    by : (b : Bool) → p x ≡ b → EachOf P (cond b (x ∷ filter p xs) (filter p xs)) → (EachOf P (filter p xs) → EachOf (λ y. p y ≡ true → P y) xs) →
-        (p x ≡ true → P x) × EachOf (λ y. p y ≡ true → P y) xs
-    by true e k f = ((λ yes. k.0), f k.1)
-    by false e k f = ((λ yes. cc), f k)
+each_filtered P p (x ∷ xs) h = grind (arith, (each_filtered P p xs))
 
 -- what holds of all items holds of those that a test leaves
 pub filtered_each : {X : Type 0} (P : X → Type 0) (p : X → Bool) (xs : List X) → EachOf (λ x. p x ≡ true → P x) xs → EachOf P (filter p xs)
 filtered_each P p [] h = tt
-filtered_each P p (x ∷ xs) h = by (p x) refl (filtered_each P p xs h.1)
-  where
-    by : (b : Bool) → p x ≡ b → EachOf P (filter p xs) → EachOf P (cond b (x ∷ filter p xs) (filter p xs))
-    by true e k = (h.0 e, k)
-    by false e k = k
+filtered_each P p (x ∷ xs) h = grind (arith, (filtered_each P p xs h.1))
 
 -- tests that agree on each item leave the same
 pub filter_same : {X : Type 0} (p q : X → Bool) (xs : List X) → EachOf (λ x. p x ≡ q x) xs → filter p xs ≡ filter q xs

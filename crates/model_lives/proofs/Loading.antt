@@ -1,37 +1,29 @@
 -- What the look-ups find is what the call touches, rule by rule.
-use Rattle.std.proofs.Common.{◌≡◌, ℕ, ◌+◌, ◌-◌, max, List, [], ◌∷◌, map, filter, Option, Some, None, refl, ap, ◌∙◌, true, false, Bool, not, arith, Result, Ok}
-use Rattle.std.proofs.Common.{Err}
-use Rattle.std.specs.Prelude.{◌==◌, ◌&&◌, ◌||◌, nat_lt, nat_le, bytes_eq, option_and_then}
-use Rattle.std.specs.List.{list_any, flat_map}
-use Rattle.std.proofs.{lemmas.Bool.Decides.nat_tests, lemmas.List.Folds.list_any-append, Math.Bool.or-false}
-use Rattle.desk_model.specs.Derived.{authz_code, numbers_of, order_code}
-use Rattle.desk_model.specs.{Authorization.is_live, Lookup.holds, Tables.Tables, Kept.EachOf, Payload.key_change}
-use Rattle.desk_model.specs.Effect.{has_row, is_live_order, is_overdue}
-use Rattle.desk_model.specs.Name.{Name, same_bool, same_name}
-use Rattle.desk_model.specs.Tokens.{NonceText, nonce_in}
-use Rattle.desk_model.specs.declared.{call.Ask.Ask, call.BadKey.BadKey, call.Call.Call, call.Target.Target, objects.Nonce.Nonce, rows.AccountRow.AccountRow}
-use Rattle.desk_model.specs.declared.{rows.AuthorizationRow.AuthorizationRow, rows.OrderRow.OrderRow, status.AuthzStatus.AuthzStatus}
-use Rattle.desk_model.specs.declared.{status.OrderStatus.OrderStatus}
+use Rattle.std.proofs.Common.{◌≡◌, ℕ, ◌+◌, ◌-◌, max, List, [], ◌∷◌, map, filter, Option, Some, None, refl, ap, ◌∙◌, true, false, Bool, not, arith, rules}
+use Rattle.std.proofs.{lemmas.List.Folds.list_any-append, Math.Bool.or-false}
+use Rattle.std.specs.{Prelude.◌==◌, Prelude.◌&&◌, Prelude.◌||◌, Prelude.nat_lt, Prelude.nat_le, Prelude.bytes_eq, List.list_any, List.flat_map}
+use Rattle.desk_model.specs.Asked.{has_new_key, asks_authorizations, asks_orders, carries, has_key, names_account, names_authorization, asked_names}
+use Rattle.desk_model.specs.Asked.{names_order, names_owner}
+use Rattle.desk_model.specs.Touched.{is_asked_authorization, is_first_authorization, is_named_account, is_named_authorization, is_named_order}
+use Rattle.desk_model.specs.Touched.{is_own_authorization, is_own_order, is_past_order, is_touched_account, is_touched_authorization, is_touched_nonce}
+use Rattle.desk_model.specs.Touched.{is_touched_order, lists, touched, touched_at, touched_rows}
+use Rattle.desk_model.specs.{Derived.authz_code, Derived.numbers_of, Derived.order_code, Authorization.is_live, Lookup.holds, Tables.Tables, Kept.EachOf}
+use Rattle.desk_model.specs.{Effect.has_row, Effect.is_live_order, Effect.is_overdue, Name.Name, Name.same_name, declared.call.Ask.Ask, declared.call.Call.Call}
+use Rattle.desk_model.specs.{declared.objects.Nonce.Nonce, declared.rows.AccountRow.AccountRow, declared.rows.AuthorizationRow.AuthorizationRow}
+use Rattle.desk_model.specs.{declared.rows.OrderRow.OrderRow, declared.status.AuthzStatus.AuthzStatus, declared.status.OrderStatus.OrderStatus}
 use Rattle.desk_model.specs.declared.call.Ask.TheVariants as ask
 use Rattle.desk_model.specs.declared.call.OfficeAsk.TheVariants as office
-use Rattle.desk_model.specs.declared.call.Target.TheVariants as to
 use Rattle.desk_model.specs.declared.status.AuthzStatus.TheVariants as authz
 use Rattle.desk_model.specs.declared.status.OrderStatus.TheVariants as order
 use Rattle.model_laws.specs.Ordered.{IsOrdered}
 use Rattle.model_laws.proofs.Basics.{each, each_all, eq_turn, list_any-map, list_any-same}
 use Rattle.model_lives.specs.Loaded.{accounts_once, authorizations_once, orders_once, account_numbers, authorization_numbers, challenge_numbers}
-use Rattle.model_lives.specs.Loaded.{first_authorizations, found_accounts, found_authorizations, found_nonces, new_keys, of_key, target_new_keys, found_orders}
+use Rattle.model_lives.specs.Loaded.{first_authorizations, found_accounts, found_authorizations, found_nonces, new_keys, found_orders}
 use Rattle.model_lives.specs.Loaded.{keys, listed_authorizations, listing_orders, loaded, loaded_at, loaded_rows, named_accounts, named_authorizations}
-use Rattle.model_lives.specs.Loaded.{named_orders, of_text, order_numbers, asked_authorizations, authorizations_asked_of, authorizations_for}
-use Rattle.model_lives.specs.Loaded.{own_authorizations, own_orders, past_authorizations, past_orders, serials, target_accounts, target_authorization_numbers}
-use Rattle.model_lives.specs.Loaded.{target_challenge_numbers, target_order_numbers}
+use Rattle.model_lives.specs.Loaded.{named_orders, order_numbers, asked_authorizations, authorizations_asked_of, authorizations_for}
+use Rattle.model_lives.specs.Loaded.{own_authorizations, own_orders, past_authorizations, past_orders, serials}
 use Rattle.model_lives.specs.LookUps.{accounts_numbered, accounts_with_key, authorizations_numbered, authorizations_of, challenges, nonces_numbered}
 use Rattle.model_lives.specs.LookUps.{orders_listing, orders_numbered, orders_of, orders_past, owners_of, places}
-use Rattle.desk_model.specs.Asked.{has_new_key, target_new_key, asks_authorizations, asks_orders, carries, has_key, names_account, names_authorization}
-use Rattle.desk_model.specs.Asked.{asked_names, names_order, names_owner, target_account, target_authorization, target_order, target_owner}
-use Rattle.desk_model.specs.Touched.{is_asked_authorization, is_first_authorization, is_named_account, is_named_authorization, is_named_order}
-use Rattle.desk_model.specs.Touched.{is_own_authorization, is_own_order, is_past_order, is_touched_account, is_touched_authorization, is_touched_nonce}
-use Rattle.desk_model.specs.Touched.{is_touched_order, lists, touched, touched_at, touched_rows}
 use Rattle.model_lives.proofs.Cut.{numbered}
 use Rattle.model_lives.proofs.Found.{IsFound, any_filter, found_both, found_by, found_filter, found_filtered, found_if, found_none, found_once, found_same}
 use Rattle.model_lives.proofs.Found.{found_table}
@@ -43,96 +35,31 @@ any_flat p f [] = refl
 any_flat p f (x ∷ xs) = list_any-append p (f x) (flat_map f xs) ∙ ap (λ b. list_any p (f x) || b) (any_flat p f xs)
 
 pub any_beside : {X : Type 0} (p : X → Bool) (b : Bool) (xs : List X) → list_any (λ x. p x && b) xs ≡ (b && list_any p xs)
-any_beside p b [] = none b
-  where
-    none : (c : Bool) → false ≡ (c && false)
-    none true = refl
-    none false = refl
-any_beside p b (x ∷ xs) = ap (λ z. (p x && b) || z) (any_beside p b xs) ∙ by (p x) b (list_any p xs)
-  where
-    by : (a b c : Bool) → ((a && b) || (b && c)) ≡ (b && (a || c))
-    by true true c = refl
-    by true false c = refl
-    by false true c = refl
-    by false false c = refl
+any_beside p b [] = grind arith
+any_beside p b (x ∷ xs) = grind (arith, (any_beside p b xs))
 
 -- ---- what an ask names
 
 carried : (a : Ask) (n : ℕ) → list_any (λ k. n == k) (serials a) ≡ carries a n
-carried (ask.Signed s) n = by (option_and_then nonce_in s.nonce)
-  where
-    by : (t : Option NonceText) → list_any (λ k. n == k) (of_text t) ≡ holds (λ (x : NonceText). n == x.serial) t
-    by None = refl
-    by (Some t) = or-false (n == t.serial)
-carried _ n = refl
-
-abbrev key_list : Result (List ℕ) BadKey → List (List ℕ)
-key_list key = elim key [ Err e ↦ [] | Ok mine ↦ mine ∷ [] ]
-
-abbrev has_this : Result (List ℕ) BadKey → List ℕ → Bool
-has_this key text = elim key [ Err e ↦ false | Ok mine ↦ bytes_eq text mine ]
+carried a n = grind arith
 
 keyed : (a : Ask) (text : List ℕ) → list_any (λ k. bytes_eq text k) (keys a) ≡ has_key a text
-keyed (ask.Signed s) text = by s.key
-  where
-    by : (key : Result (List ℕ) BadKey) → list_any (λ k. bytes_eq text k) (key_list key) ≡ has_this key text
-    by (Err e) = refl
-    by (Ok key) = or-false (bytes_eq text key)
-keyed _ text = refl
+keyed a text = grind arith
 
 new_keyed : (a : Ask) (text : List ℕ) → list_any (λ k. bytes_eq text k) (new_keys a) ≡ has_new_key a text
-new_keyed (ask.Signed s) text = by s.target
-  where
-    one : (o : Option (List ℕ)) → list_any (λ k. bytes_eq text k) (of_key o) ≡ holds (bytes_eq text) o
-    one None = refl
-    one (Some key) = or-false (bytes_eq text key)
-
-    by : (t : Target) → list_any (λ k. bytes_eq text k) (target_new_keys t s.payload) ≡ target_new_key t s.payload text
-    by to.KeyChange = one (option_and_then (λ c. c.new_key) (key_change s.payload))
-    by _ = refl
-new_keyed (ask.NewNonce head) text = refl
-new_keyed (ask.Office a) text = refl
+new_keyed a text = grind arith
 
 account_listed : (a : Ask) (n : ℕ) → list_any (λ k. n == k) (account_numbers a) ≡ names_account a n
-account_listed (ask.Signed s) n = by s.target
-  where
-    by : (t : Target) → list_any (λ k. n == k) (target_accounts t) ≡ target_account t n
-    by (to.Account k) = or-false (n == k)
-    by (to.Orders k) = or-false (n == k)
-    by _ = refl
-account_listed (ask.Office (office.RevokeAccount k)) n = or-false (n == k)
-account_listed (ask.Office (office.KeyOf k)) n = or-false (n == k)
-account_listed _ n = refl
+account_listed a n = grind arith
 
 order_listed : (a : Ask) (n : ℕ) → list_any (λ k. n == k) (order_numbers a) ≡ names_order a n
-order_listed (ask.Signed s) n = by s.target
-  where
-    by : (t : Target) → list_any (λ k. n == k) (target_order_numbers t) ≡ target_order t n
-    by (to.Order k) = or-false (n == k)
-    by (to.Finalize k) = or-false (n == k)
-    by (to.Cert k) = or-false (n == k)
-    by _ = refl
-order_listed (ask.Office (office.Certify k bytes)) n = or-false (n == k)
-order_listed (ask.Office (office.FailOrder k problem)) n = or-false (n == k)
-order_listed _ n = refl
+order_listed a n = grind arith
 
 authorization_listed : (a : Ask) (n : ℕ) → list_any (λ k. n == k) (authorization_numbers a) ≡ names_authorization a n
-authorization_listed (ask.Signed s) n = by s.target
-  where
-    by : (t : Target) → list_any (λ k. n == k) (target_authorization_numbers t) ≡ target_authorization t n
-    by (to.Authz k) = or-false (n == k)
-    by _ = refl
-authorization_listed (ask.Office (office.RevokeAuthz k)) n = or-false (n == k)
-authorization_listed _ n = refl
+authorization_listed a n = grind arith
 
 challenge_listed : (a : Ask) (r : AuthorizationRow) → list_any (λ c. has_row c r) (challenge_numbers a) ≡ names_owner a r
-challenge_listed (ask.Signed s) r = by s.target
-  where
-    by : (t : Target) → list_any (λ c. has_row c r) (target_challenge_numbers t) ≡ target_owner t r
-    by (to.Chall k) = or-false (has_row k r)
-    by _ = refl
-challenge_listed (ask.Office (office.Report k finding)) r = or-false (has_row k r)
-challenge_listed _ r = refl
+challenge_listed a r = grind arith
 
 -- ---- rows that belong to others
 
@@ -182,10 +109,7 @@ abbrev pub of_order : OrderRow → ℕ
 of_order o = o.number
 
 past_life : (m life : ℕ) (x : Nonce) → nat_lt x.issued (m - life) ≡ not (nat_le m (x.issued + life))
-past_life m life x = by x.issued
-  where
-    by : (n : ℕ) → nat_lt n (m - life) ≡ not (nat_le m (n + life))
-    by n = grind (arith, nat_tests)
+past_life m life x = grind arith
 
 pub nonces_found : (T : Tables) (m : ℕ) (a : Ask) → IsOrdered T → IsFound of_nonce (is_touched_nonce T m a) T.nonces (found_nonces T m a)
 nonces_found T m a h =
@@ -262,23 +186,11 @@ any_under false p (x ∷ xs) = any_under false p xs
 
 -- and behind them
 any_behind : {X : Type 0} (b : Bool) (p : X → Bool) (xs : List X) → list_any (λ x. p x && b) xs ≡ (list_any p xs && b)
-any_behind b p xs = any_beside p b xs ∙ by b (list_any p xs)
-  where
-    by : (c d : Bool) → (c && d) ≡ (d && c)
-    by true true = refl
-    by true false = refl
-    by false true = refl
-    by false false = refl
+any_behind b p xs = grind (arith, any_beside)
 
 -- who has the name has its base
 same_bases : (one other : Name) (b : Bool) → (same_name one other && (b && bytes_eq one.base other.base)) ≡ (same_name one other && b)
-same_bases one other b = by (bytes_eq one.base other.base) (same_bool one.wildcard other.wildcard) b
-  where
-    by : (c d e : Bool) → ((c && d) && (e && c)) ≡ ((c && d) && e)
-    by true true true = refl
-    by true true false = refl
-    by true false e = refl
-    by false d e = refl
+same_bases one other b = grind arith
 
 -- the authorizations of an account for some names
 authorizations_by_names : (T : Tables) (n : ℕ) → IsOrdered T → (names : List Name)
@@ -325,9 +237,7 @@ orders_over T m h =
         (((order_code s == order_code order.Pending) && b)
         || (((order_code s == order_code order.Ready) && b) || ((order_code s == order_code order.Processing) && b)))
         ≡ (is_live_order s && b)
-    by order.Pending b = or-false b
-    by order.Ready b = or-false b
-    by _ b = refl
+    by k b = grind arith
 
 pub authorizations_over : (T : Tables) (m : ℕ) → IsOrdered T → IsFound of_authorization (is_overdue m) T.authorizations (past_authorizations T m)
 authorizations_over T m h =
@@ -345,9 +255,7 @@ authorizations_over T m h =
 
 authorizations_first : (T : Tables) (m : ℕ) (a : Ask) → IsOrdered T
     → IsFound of_authorization (is_first_authorization T m a) T.authorizations (first_authorizations T m a)
-authorizations_first T m a h =
-    found_both of_authorization (is_named_authorization a) (λ r. is_own_authorization T a r || is_overdue m r) T.authorizations _ _ (authorizations_named T a h)
-    (found_both of_authorization (is_own_authorization T a) (is_overdue m) T.authorizations _ _ (authorizations_own T a h) (authorizations_over T m h))
+authorizations_first T m a h = search (rules, found_both, authorizations_named, authorizations_own, authorizations_over)
 
 -- orders that list one of the rows found
 pub orders_listed : (T : Tables) (test : AuthorizationRow → Bool) (rows : List AuthorizationRow) → IsOrdered T
@@ -384,18 +292,11 @@ authorizations_listed T test rows h is =
 
 authorizations_found : (T : Tables) (m : ℕ) (a : Ask) → IsOrdered T
     → IsFound of_authorization (is_touched_authorization T m a) T.authorizations (found_authorizations T m a)
-authorizations_found T m a h =
-    found_both of_authorization (is_first_authorization T m a)
-    (λ r. list_any (λ o. is_touched_order T m a o && lists o r.number) T.orders || is_asked_authorization T a r) T.authorizations _ _
-    (authorizations_first T m a h)
-    (found_both of_authorization (λ r. list_any (λ o. is_touched_order T m a o && lists o r.number) T.orders) (is_asked_authorization T a) T.authorizations _ _
-    (authorizations_listed T (is_touched_order T m a) (orders_once (found_orders T m a)) h (orders_once_found T m a h)) (authorizations_asked T a h))
+authorizations_found T m a h = search (rules, found_both, authorizations_first, authorizations_listed, orders_once_found, authorizations_asked)
 
 authorizations_once_found : (T : Tables) (m : ℕ) (a : Ask) → IsOrdered T
     → IsFound of_authorization (is_touched_authorization T m a) T.authorizations (authorizations_once (found_authorizations T m a))
-authorizations_once_found T m a h =
-    found_once of_authorization (is_touched_authorization T m a) 1 T.authorizations (found_authorizations T m a) h.authorizations.0
-    (authorizations_found T m a h)
+authorizations_once_found T m a h = search (rules, found_once, authorizations_found)
 
 accounts_found : (T : Tables) (m : ℕ) (a : Ask) → IsOrdered T → IsFound of_account (is_touched_account T m a) T.accounts (found_accounts T m a)
 accounts_found T m a h =
@@ -416,15 +317,7 @@ accounts_found T m a h =
 -- ---- as tables
 
 rows_loaded : (T : Tables) (m : ℕ) (a : Ask) → IsOrdered T → loaded_rows T m a ≡ touched_rows T m a
-rows_loaded T m a h =
-    λ i. record {
-      meta = T.meta;
-      nonces = found_table of_nonce (is_touched_nonce T m a) 1 T.nonces (found_nonces T m a) h.nonces.0 (nonces_found T m a h) i;
-      accounts = found_table of_account (is_touched_account T m a) 1 T.accounts (found_accounts T m a) h.accounts.0 (accounts_found T m a h) i;
-      authorizations = found_table of_authorization (is_touched_authorization T m a) 1 T.authorizations (found_authorizations T m a)
-          h.authorizations.0 (authorizations_found T m a h) i;
-      orders = found_table of_order (is_touched_order T m a) 1 T.orders (found_orders T m a) h.orders.0 (orders_found T m a h) i;
-    }
+rows_loaded T m a h = grind (arith, found_table, nonces_found, accounts_found, authorizations_found, orders_found)
 
 pub loaded_touched : (T : Tables) (call : Call) → IsOrdered T → loaded T call ≡ touched T call
 loaded_touched T call h = by call.ask

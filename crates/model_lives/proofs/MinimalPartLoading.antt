@@ -1,23 +1,21 @@
 -- What the look-ups of the few rows find is what is enough, rule by rule.
-use Rattle.std.proofs.Common.{◌≡◌, ℕ, List, [], ◌++◌, refl, ap, ◌∙◌, true, false, Bool, not}
-use Rattle.std.specs.Prelude.{◌==◌, ◌&&◌, ◌||◌, if◌then◌else◌}
-use Rattle.std.specs.List.{list_any}
+use Rattle.std.proofs.Common.{◌≡◌, ℕ, List, [], ◌++◌, refl, ap, ◌∙◌, true, false, Bool, not, arith, rules}
+use Rattle.std.specs.{Prelude.◌==◌, Prelude.◌&&◌, Prelude.◌||◌, Prelude.if◌then◌else◌, List.list_any}
 use Rattle.desk_model.specs.Asked.{asked_names, asks_authorizations, asks_orders}
-use Rattle.desk_model.specs.Tables.{Tables}
-use Rattle.desk_model.specs.Touched.{is_named_account, is_named_order, is_past_order, is_touched_nonce, lists}
-use Rattle.desk_model.specs.declared.{call.Ask.Ask, rows.AccountRow.AccountRow, rows.AuthorizationRow.AuthorizationRow}
+use Rattle.desk_model.specs.Touched.{is_named_account, is_named_order, is_past_order, lists}
+use Rattle.desk_model.specs.{Tables.Tables, declared.call.Ask.Ask, declared.rows.AccountRow.AccountRow, declared.rows.AuthorizationRow.AuthorizationRow}
 use Rattle.model_laws.specs.Ordered.{IsOrdered}
 use Rattle.model_laws.proofs.Basics.{each_all, eq_turn, list_any-same}
 use Rattle.model_lives.specs.MinimalPart.{minimal_rows, is_needed_account, is_needed_authorization, is_needed_order, is_moved_authorization, is_opened_order}
-use Rattle.model_lives.specs.MinimalPart.{is_restated_authorization, is_wanted_authorization, is_whole_authorization, is_whole_order, needs_holders, needs_listed}
+use Rattle.model_lives.specs.MinimalPart.{is_restated_authorization, is_wanted_authorization, is_whole_authorization, is_whole_order, needs_listed}
 use Rattle.model_lives.specs.MinimalPart.{changes_statuses}
 use Rattle.model_lives.specs.MinimalPartLoaded.{minimal_accounts, minimal_authorizations, minimal_loaded, minimal_orders, holders_of, listed_orders, moved_authorizations}
 use Rattle.model_lives.specs.MinimalPartLoaded.{opened_orders, restated_authorizations, whole_authorizations}
-use Rattle.model_lives.specs.Loaded.{accounts_once, authorizations_asked_of, authorizations_once, found_nonces, named_accounts, named_orders, orders_once}
+use Rattle.model_lives.specs.Loaded.{accounts_once, authorizations_asked_of, authorizations_once, named_accounts, named_orders, orders_once}
 use Rattle.model_lives.specs.LookUps.{accounts_numbered, authorizations_of, orders_of}
 use Rattle.model_lives.proofs.Found.{IsFound, found_both, found_by, found_filter, found_if, found_once, found_same, found_table}
 use Rattle.model_lives.proofs.Loading.{asked_found, accounts_named, accounts_once_named, authorizations_listed, authorizations_named, authorizations_over}
-use Rattle.model_lives.proofs.Loading.{nonces_found, of_account, of_authorization, of_nonce, of_order, orders_listed, orders_named, orders_over}
+use Rattle.model_lives.proofs.Loading.{nonces_found, of_account, of_authorization, of_order, orders_listed, orders_named, orders_over}
 
 moved_found : (T : Tables) (a : Ask) → IsOrdered T → IsFound of_authorization (is_moved_authorization T a) T.authorizations (moved_authorizations T a)
 moved_found T a h =
@@ -51,19 +49,14 @@ holders_found T test rows h is =
     (λ r. found_filter of_account (λ x. x.number == r.account) 1 T.accounts h.accounts.0) rows)
 
 accounts_minimal : (T : Tables) (a : Ask) → IsOrdered T → IsFound of_account (is_needed_account T a) T.accounts (minimal_accounts T a)
-accounts_minimal T a h =
-    found_both of_account _ _ T.accounts _ _ (accounts_named T a h)
-    (found_if of_account (needs_holders a) (λ x. list_any (λ r. is_moved_authorization T a r && (r.account == x.number)) T.authorizations) T.accounts _
-    (holders_found T (is_moved_authorization T a) _ h (moved_once T a h)))
+accounts_minimal T a h = search (rules, found_both, accounts_named, found_if, holders_found, moved_once)
 
 accounts_minimal_once : (T : Tables) (a : Ask) → IsOrdered T → IsFound of_account (is_needed_account T a) T.accounts (accounts_once (minimal_accounts T a))
 accounts_minimal_once T a h = found_once of_account (is_needed_account T a) 1 T.accounts (minimal_accounts T a) h.accounts.0 (accounts_minimal T a h)
 
 pub restated_found : (T : Tables) (m : ℕ) (a : Ask) → IsOrdered T →
     IsFound of_authorization (is_restated_authorization T m a) T.authorizations (restated_authorizations T m a)
-restated_found T m a h =
-    found_both of_authorization _ _ T.authorizations _ _ (authorizations_over T m h)
-    (found_if of_authorization (changes_statuses a) (is_moved_authorization T a) T.authorizations _ (moved_once T a h))
+restated_found T m a h = search (rules, found_both, authorizations_over, found_if, moved_once)
 
 opened_found : (T : Tables) (m : ℕ) (a : Ask) → IsOrdered T → IsFound of_order (is_opened_order T m a) T.orders (opened_orders T m a)
 opened_found T m a h =
@@ -95,10 +88,7 @@ orders_minimal T m a h =
     (listed_orders_found T a h)))
   where
     by : (x n d w : Bool) → ((x || (n && d)) || ((not n && d) || w)) ≡ ((x || (n && d)) || (d || w))
-    by true n d w = refl
-    by false true true w = refl
-    by false true false w = refl
-    by false false d w = refl
+    by k n d w = grind arith
 
 -- the orders that are needed with what they list
 pub whole_found : (T : Tables) (m : ℕ) (a : Ask) → IsOrdered T →
@@ -110,10 +100,7 @@ whole_found T m a h =
     (found_both of_order _ _ T.orders _ _ (opened_found T m a h) (found_if of_order (not (needs_listed a)) (is_named_order a) T.orders _ (orders_named T a h)))
   where
     by : (x n d : Bool) → ((x || (n && d)) || (not n && d)) ≡ ((x || (n && d)) || d)
-    by true n d = refl
-    by false true true = refl
-    by false true false = refl
-    by false false d = refl
+    by x n d = grind arith
 
 wanted_found : (T : Tables) (a : Ask) → IsOrdered T → IsFound of_authorization (is_wanted_authorization T a) T.authorizations
     (authorizations_asked_of T (asked_names a) (accounts_once (minimal_accounts T a)))
@@ -122,9 +109,7 @@ wanted_found T a h = asked_found T (is_needed_account T a) (accounts_once (minim
 -- the authorizations that are needed with their challenges
 pub whole_authorizations_found : (T : Tables) (m : ℕ) (a : Ask) → IsOrdered T →
     IsFound of_authorization (is_whole_authorization T m a) T.authorizations (whole_authorizations T m a)
-whole_authorizations_found T m a h =
-    found_both of_authorization _ _ T.authorizations _ _ (restated_found T m a h)
-    (found_both of_authorization _ _ T.authorizations _ _ (moved_once T a h) (wanted_found T a h))
+whole_authorizations_found T m a h = search (rules, found_both, restated_found, moved_once, wanted_found)
 
 authorizations_minimal : (T : Tables) (m : ℕ) (a : Ask) → IsOrdered T →
     IsFound of_authorization (is_needed_authorization T m a) T.authorizations (minimal_authorizations T m a)
@@ -136,20 +121,8 @@ authorizations_minimal T m a h =
     (authorizations_listed T (is_opened_order T m a) (orders_once (opened_orders T m a)) h (opened_once T m a h)))
   where
     by : (x l w : Bool) → ((x || w) || l) ≡ ((x || l) || w)
-    by true l w = refl
-    by false true true = refl
-    by false true false = refl
-    by false false true = refl
-    by false false false = refl
+    by x l w = grind arith
 
 -- as tables
 pub loaded_minimal : (T : Tables) (m : ℕ) (a : Ask) → IsOrdered T → minimal_loaded T m a ≡ minimal_rows T m a
-loaded_minimal T m a h =
-    λ i. record {
-      meta = T.meta;
-      nonces = found_table of_nonce (is_touched_nonce T m a) 1 T.nonces (found_nonces T m a) h.nonces.0 (nonces_found T m a h) i;
-      accounts = found_table of_account (is_needed_account T a) 1 T.accounts (minimal_accounts T a) h.accounts.0 (accounts_minimal T a h) i;
-      authorizations = found_table of_authorization (is_needed_authorization T m a) 1 T.authorizations (minimal_authorizations T m a) h.authorizations.0
-          (authorizations_minimal T m a h) i;
-      orders = found_table of_order (is_needed_order T m a) 1 T.orders (minimal_orders T m a) h.orders.0 (orders_minimal T m a h) i;
-    }
+loaded_minimal T m a h = grind (arith, found_table, nonces_found, accounts_minimal, authorizations_minimal, orders_minimal)

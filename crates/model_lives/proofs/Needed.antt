@@ -1,26 +1,21 @@
 -- The rows as they are needed are cut from the tables, and answer as the few rows in whole.
 use Rattle.std.proofs.Common.{◌≡◌, ℕ, [], map, filter, refl, sym, ap, subst, ◌∙◌, true, false, Bool}
-use Rattle.std.specs.Prelude.{◌==◌, ◌&&◌, if◌then◌else◌}
 use Rattle.std.proofs.lemmas.Bool.{and_from, or_left, or_right}
+use Rattle.std.specs.Prelude.{◌==◌, ◌&&◌, if◌then◌else◌}
 use Rattle.desk_model.specs.Asked.{asks_authorizations, names_authorization, names_owner}
-use Rattle.desk_model.specs.{Effect.is_overdue, Tables.Tables, Touched.is_named_account}
-use Rattle.desk_model.specs.Kept.{EachOf, restricted}
-use Rattle.desk_model.specs.declared.{call.Ask.Ask, rows.AccountRow.AccountRow, rows.AuthorizationRow.AuthorizationRow, rows.ChallengeRow.ChallengeRow}
+use Rattle.desk_model.specs.{Effect.is_overdue, Tables.Tables, Touched.is_named_account, Kept.EachOf, Kept.restricted, declared.call.Ask.Ask}
+use Rattle.desk_model.specs.{declared.rows.AccountRow.AccountRow, declared.rows.AuthorizationRow.AuthorizationRow, declared.rows.ChallengeRow.ChallengeRow}
 use Rattle.model_laws.specs.Ordered.{IsOrdered}
-use Rattle.model_laws.proofs.Basics.{each, each_all, each_both, map-each}
-use Rattle.model_laws.proofs.Local.{filter_all}
+use Rattle.model_laws.proofs.{Basics.each, Basics.each_all, Basics.each_both, Basics.map-each, Local.filter_all}
 use Rattle.model_lives.specs.AnswersAs.{AnswersAs}
 use Rattle.model_lives.specs.MinimalPart.{as_needed, authorization_as_needed, minimal_rows, is_needed_authorization, is_needed_order, is_moved_authorization}
 use Rattle.model_lives.specs.MinimalPart.{is_restated_authorization, is_whole_authorization, needed_rows, changes_statuses}
 use Rattle.model_lives.specs.Thinned.{Thinning, thin, thinned, whole_if, with_challenges, with_orders}
-use Rattle.model_lives.proofs.Trimming.{AreWhole, trimmed, those}
-use Rattle.model_lives.proofs.Cut.{at_number, numbered}
-use Rattle.model_lives.proofs.Fewer.{minimal_cut, minimal_kept}
 use Rattle.model_lives.proofs.Grown.{kept_number, new_kept, same_kept, with_others}
-use Rattle.model_lives.proofs.ListedAlone.{needed_in_whole, needed_same, with_summaries}
 use Rattle.model_lives.proofs.Lists.{each_member, filter_nothing, filtered_each, turned}
-use Rattle.model_lives.proofs.Thin.{whole_authorizations, whole_orders}
-use Rattle.model_lives.proofs.TrimmedVerdicts.{IsNoList, KeepsWhole, answers_trimmed}
+use Rattle.model_lives.proofs.{Trimming.AreWhole, Trimming.trimmed, Trimming.those, Cut.at_number, Cut.numbered, Fewer.minimal_cut, Fewer.minimal_kept}
+use Rattle.model_lives.proofs.{ListedAlone.needed_in_whole, ListedAlone.needed_same, ListedAlone.with_summaries, Thin.whole_authorizations, Thin.whole_orders}
+use Rattle.model_lives.proofs.{TrimmedVerdicts.IsNoList, TrimmedVerdicts.KeepsWhole, TrimmedVerdicts.answers_trimmed}
 
 abbrev number : AuthorizationRow → ℕ
 number r = r.number

@@ -1,20 +1,14 @@
 -- A nonce serves once.
-use Rattle.std.proofs.Common.{◌≡◌, ℕ, List, ◌∷◌, ◌++◌, Option, Some, None, refl, sym, ap, ◌∙◌, subst, true, false, Bool, cond, drop}
-use Rattle.std.specs.Prelude.{◌==◌, is_none, is_some, bytes_eq, nat_le, ◌+◌}
-use Rattle.std.proofs.lemmas.Bool.{eqb-true, eq-eqb, and_parts}
-use Rattle.desk_model.specs.{Entry.History, Lookup.holds, Questions.nonce_on}
-use Rattle.desk_model.specs.declared.{entry.Entry.TheVariants.Spent as spent, objects.Nonce.Nonce, verdict.Verdict.Verdict, call.Call.Call, call.Ask.Ask}
-use Rattle.desk_model.specs.declared.{call.Signed.Signed}
-use Rattle.desk_model.specs.History.{record_all, moment_of, first, terms}
-use Rattle.desk_model.specs.Nonce.{nonce, nonces, when_spent, spending, is_open}
-use Rattle.desk_model.specs.Tables.{Tables, tables_at}
-use Rattle.desk_model.specs.Tokens.{NonceText, nonce_in}
-use Rattle.desk_model.specs.Rules.{if_spelled, open_nonce, open_nonce_in, signed_verdict}
-use Rattle.desk_model.specs.Decide.{decide_at, after, entries_of, nonce_entries, passed_decision, signed_decision, tables_after}
+use Rattle.std.proofs.Common.{◌≡◌, ℕ, List, ◌∷◌, ◌++◌, Option, Some, None, refl, ◌∙◌, subst, true, drop, arith}
+use Rattle.std.proofs.lemmas.Bool.{eq-eqb}
+use Rattle.std.specs.Prelude.{is_some}
+use Rattle.desk_model.specs.Decide.{after, nonce_entries, passed_decision, signed_decision, tables_after}
 use Rattle.desk_model.specs.Life.{Replied, history, Passed, NoncesServeOnce}
+use Rattle.desk_model.specs.{Entry.History, Questions.nonce_on, declared.entry.Entry.TheVariants.Spent as spent, declared.verdict.Verdict.Verdict}
+use Rattle.desk_model.specs.{declared.call.Call.Call, declared.call.Signed.Signed, History.record_all, History.moment_of, History.first, Nonce.when_spent}
+use Rattle.desk_model.specs.{Nonce.spending, Tables.Tables, Tables.tables_at, Tokens.NonceText, Tokens.nonce_in, Rules.open_nonce, Rules.signed_verdict}
 use Rattle.model_laws.proofs.{AllowedFacts.allowed, Finds.found_passes}
-use Rattle.model_lives.proofs.Sound.{open_serial}
-use Rattle.model_lives.proofs.Extends.{Extends, extends_record_all, extends_earlier, first-extends}
+use Rattle.model_lives.proofs.{Sound.open_serial, Extends.Extends, Extends.extends_earlier, Extends.first-extends}
 
 -- the nonce was spent
 pub record IsSpent (serial : ℕ) (F : History) : Type 0 where
@@ -27,34 +21,12 @@ spent_stays serial F G p s = record { date = s.date; is = first-extends (λ e. s
 
 -- a spent nonce is not open
 spent_shut : (F : History) (m serial : ℕ) → IsSpent serial F → is_some (nonce_on (tables_at F m) serial) ≡ true → ⊥
-spent_shut F m serial s h = by (nonce serial F) refl (allowed F (spent serial) m tt ∙ h)
-  where
-    by : (o : Option Nonce) → nonce serial F ≡ o → holds (is_open F m) o ≡ true → ⊥
-    by None e k = cc
-    by (Some n) e k =
-        let same : n.serial ≡ serial = eqb-true n.serial serial (found_passes (λ n. n.serial == serial) (nonces F) n e) in
-        let unspent = and_parts (is_none (when_spent n.serial F)) (nat_le m (n.issued + (terms F).nonce_life)) k in
-        let none : is_none (when_spent serial F) ≡ true = ap (λ k. is_none (when_spent k F)) (sym same) ∙ unspent.0 in
-        let some : is_none (when_spent serial F) ≡ false = ap is_none s.is in
-        cc
+spent_shut F m serial s h = grind (arith, found_passes, (allowed F (spent serial) m tt ∙ h))
 
 -- the serial of the open nonce that a text spells
 serial_in : (T : Tables) (text : List ℕ) → is_some (open_nonce T (Some text)) ≡ true →
     (t : NonceText) × (nonce_in text ≡ Some t) × (open_nonce T (Some text) ≡ Some t.serial)
-serial_in T text h = by (nonce_in text) refl h
-  where
-    spelled : (t : NonceText) (o : Option Nonce) → is_some (if_spelled t o) ≡ true → if_spelled t o ≡ Some t.serial
-    spelled t None k = cc
-    spelled t (Some n) k = one (bytes_eq n.random t.random) k
-      where
-        one : (b : Bool) → is_some (cond {A = Option ℕ} b (Some t.serial) None) ≡ true → cond {A = Option ℕ} b (Some t.serial) None ≡ Some t.serial
-        one true k = refl
-        one false k = cc
-
-    by : (o : Option NonceText) → nonce_in text ≡ o → is_some (open_nonce_in T o) ≡ true →
-        (t : NonceText) × (nonce_in text ≡ Some t) × (open_nonce_in T (nonce_in text) ≡ Some t.serial)
-    by None e k = cc
-    by (Some t) e k = (t, e, ap (open_nonce_in T) e ∙ spelled t (nonce_on T t.serial) k)
+serial_in T text h = grind arith
 
 -- after the entries of its nonce a request's nonce is spent
 spent_after_nonces : (F : History) (m : ℕ) (serial : ℕ) (random : List ℕ) → IsSpent serial (record_all m (nonce_entries serial random) F)
@@ -67,27 +39,19 @@ spent_after_nonces F m serial random = by (when_spent serial F) refl
 -- and after all of its entries
 passed_spends : (F : History) (m : ℕ) (serial : ℕ) (random : List ℕ) (v : Verdict) →
     IsSpent serial (record_all m (passed_decision F m random serial v).entries F)
-passed_spends F m serial random v =
-    spent_stays serial (record_all m (nonce_entries serial random) F) _
-    (extends_record_all m (entries_of v) (record_all m (nonce_entries serial random) F)) (spent_after_nonces F m serial random)
+passed_spends F m serial random v = grind (arith, (spent_after_nonces F m serial random))
 
 -- a signed request with an open nonce spends it
 signed_spends : (F : History) (m : ℕ) (serial : ℕ) (random : List ℕ) (s : Signed) (o : Option ℕ) → o ≡ Some serial →
     IsSpent serial (record_all m (signed_decision F m random s o).entries F)
 signed_spends F m serial random s None e = cc
-signed_spends F m serial random s (Some k) e =
-    let same : k ≡ serial = cc in
-    rw same (passed_spends F m serial random (signed_verdict (tables_after m (nonce_entries serial random) F) (drop 16 random) s))
+signed_spends F m serial random s (Some k) e = grind (arith, (passed_spends F m serial random (signed_verdict (tables_after m (nonce_entries serial random) F) (drop 16 random) s)))
 
 -- a call that has passed spends its nonce
 call_spends : (F : History) (call : Call) (text : List ℕ) (serial : ℕ) → Passed F call text →
     open_nonce (tables_at F (moment_of call.at F)) (Some text) ≡ Some serial →
     IsSpent serial (after F call)
-call_spends F call text serial passed opens =
-    let m : ℕ = moment_of call.at F in
-    let found : open_nonce (tables_at F m) passed.signed.nonce ≡ Some serial = ap (open_nonce (tables_at F m)) passed.nonce ∙ opens in
-    subst (λ (a : Ask). IsSpent serial (record_all m (decide_at F m call.random a).entries F)) (sym passed.is)
-    (signed_spends F m serial call.random passed.signed _ found)
+call_spends F call text serial passed opens = grind (arith, signed_spends)
 
 -- no nonce serves twice
 pub nonces_serve_once : NoncesServeOnce

@@ -1,14 +1,11 @@
 -- The contacts that a UTF-8 payload names are UTF-8.
-use Rattle.std.proofs.Common.{ℕ, List, [], ◌∷◌, Option, Some, None, IsUtf8, IfSome, Ordering, Less, Equal, Greater, Bool, true, false, cond}
+use Rattle.std.proofs.Common.{ℕ, List, [], ◌∷◌, Option, Some, IsUtf8, IfSome, Bool, true, false, cond, arith}
 use Rattle.std.specs.Prelude.{codes, option_map, unwrap_or}
-use Rattle.std.specs.Ordering.{match_ordering}
-use Rattle.serde_json.specs.Data.{Data, string, array, object, Items, no_items, item, Members, no_members, member}
+use Rattle.serde_json.specs.Data.{Data, Items, no_items, item, Members, no_members, member}
 use Rattle.serde_json.specs.Find.{as_array, as_bool, as_str, get, get_member}
-use Rattle.serde_json.specs.Read.{read}
-use Rattle.desk_model.specs.Texts.{AreTexts}
-use Rattle.desk_model.specs.declared.payload.{AccountChange.AccountChange, NewAccount.NewAccount}
-use Rattle.desk_model.specs.Payload.{account_change, account_change_in, and_each, each_in, if_object, is_object, new_account, new_account_by, new_account_in}
-use Rattle.desk_model.specs.Payload.{object_in, optional, says_deactivated, texts_in}
+use Rattle.desk_model.specs.Payload.{account_change, account_change_in, each_in, new_account, new_account_by, new_account_in, object_in, optional}
+use Rattle.desk_model.specs.Payload.{says_deactivated, texts_in}
+use Rattle.desk_model.specs.{Texts.AreTexts, declared.payload.AccountChange.AccountChange, declared.payload.NewAccount.NewAccount}
 use Rattle.desk_model.specs.declared.payload.AccountChange.TheVariants as change
 use Rattle.model_lives.proofs.JsonTexts.{HoldsStrings, HoldItemStrings, HoldMemberStrings, map_holds, read_strings, then_holds}
 
@@ -17,46 +14,25 @@ use Rattle.model_lives.proofs.JsonTexts.{HoldsStrings, HoldItemStrings, HoldMemb
 -- the object that a text holds
 object_strings : (text : List ℕ) → IsUtf8 text → IfSome (object_in text) HoldsStrings
 unfolding object_in
-object_strings text h = then_holds HoldsStrings HoldsStrings if_object (λ d. by (is_object d) d) (read text) (read_strings text h)
-  where
-    by : (b : Bool) (d : Data) → HoldsStrings d → IfSome (cond b (Some d) None) HoldsStrings
-    by true d k = k
-    by false d k = tt
+object_strings text h = grind (arith, read_strings)
 
 -- a member of an object
 member_strings : (k : List ℕ) (ms : Members) → HoldMemberStrings ms → IfSome (get_member k ms) HoldsStrings
 member_strings k no_members h = tt
-member_strings k (member l d ms) h = by _ (member_strings k ms h.2)
-  where
-    by : (o : Ordering) → IfSome (get_member k ms) HoldsStrings → IfSome (match_ordering o (get_member k ms) (Some d) (get_member k ms)) HoldsStrings
-    by Less more = more
-    by Equal more = h.1
-    by Greater more = more
+member_strings k (member l d ms) h = grind (arith, (member_strings k ms h.2))
 
 -- a member of a value
 get_strings : (k : List ℕ) (d : Data) → HoldsStrings d → IfSome (get k d) HoldsStrings
-get_strings k (object ms) h = member_strings k ms h
-get_strings k _ h = tt
-
--- the string that a value is
-string_strings : (d : Data) → HoldsStrings d → IfSome (as_str d) IsUtf8
-string_strings (string s) h = h
-string_strings _ h = tt
+get_strings k d h = grind (arith, member_strings)
 
 -- the items of the array that a value is
 array_strings : (d : Data) → HoldsStrings d → IfSome (as_array d) HoldItemStrings
-array_strings (array ds) h = h
-array_strings _ h = tt
+array_strings d h = grind arith
 
 -- items that are strings
 items_are_texts : (ds : Items) → HoldItemStrings ds → IfSome (each_in as_str ds) AreTexts
 items_are_texts no_items h = tt
-items_are_texts (item d ds) h = by (as_str d) (each_in as_str ds) (string_strings d h.0) (items_are_texts ds h.1)
-  where
-    by : (o : Option (List ℕ)) (rest : Option (List (List ℕ))) → IfSome o IsUtf8 → IfSome rest AreTexts → IfSome (and_each o rest) AreTexts
-    by None rest p q = tt
-    by (Some s) None p q = tt
-    by (Some s) (Some ss) p q = (p, q)
+items_are_texts (item d ds) h = grind (arith, (items_are_texts ds h.1))
 
 -- a list of texts
 list_texts : (d : Data) → HoldsStrings d → IfSome (texts_in d) AreTexts
@@ -64,8 +40,7 @@ list_texts d h = then_holds HoldItemStrings AreTexts (each_in as_str) items_are_
 
 -- a list that may be left out
 optional_texts : (o : Option Data) → IfSome o HoldsStrings → IfSome (optional texts_in o) (λ x. IfSome x AreTexts)
-optional_texts None h = tt
-optional_texts (Some d) h = map_holds AreTexts (λ x. IfSome x AreTexts) (λ x. Some x) (λ x k. k) (texts_in d) (list_texts d h)
+optional_texts o h = grind (arith, list_texts)
 
 -- ---- payloads
 
@@ -81,14 +56,11 @@ new_account_texts payload h =
     (optional_texts (get (codes "contact") d) (get_strings (codes "contact") d k))) (object_in payload) (object_strings payload h)
   where
     given : (o : Option (List (List ℕ))) → IfSome o AreTexts → AreTexts (unwrap_or o [])
-    given None k = tt
-    given (Some cs) k = k
+    given o l = grind arith
 
     by : (contacts : Option (Option (List (List ℕ)))) (only : Option (Option Bool)) → IfSome contacts (λ x. IfSome x AreTexts) →
         IfSome (new_account_by contacts only) AsksWithTexts
-    by None only k = tt
-    by (Some contacts) None k = tt
-    by (Some contacts) (Some only) k = given contacts k
+    by contacts only g = grind arith
 
 -- an account is changed to texts
 abbrev pub ChangesToTexts : AccountChange → Type 0

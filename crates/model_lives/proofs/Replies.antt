@@ -1,29 +1,22 @@
 -- A part that keeps what is shown gives the same reply.
-use Rattle.std.proofs.Common.{◌≡◌, ℕ, ◌+◌, ◌<◌, List, [], ◌∷◌, map, filter, Option, Some, None, refl, sym, ap, subst, ◌∙◌, true, Bool, arith}
+use Rattle.std.proofs.Common.{◌≡◌, ℕ, ◌+◌, ◌<◌, List, [], ◌∷◌, map, filter, refl, sym, ap, ◌∙◌, true, Bool, arith, rules}
+use Rattle.std.proofs.lemmas.Bool.{and_parts}
 use Rattle.std.specs.Prelude.{◌==◌, codes}
-use Rattle.std.proofs.lemmas.Bool.{and_parts, eqb-true}
 use Rattle.serde_json.specs.Data.{Data, string}
-use Rattle.desk_model.specs.Json.{document, list}
-use Rattle.desk_model.specs.Derived.{numbers_of, restated_authorization, restated_order}
 use Rattle.desk_model.specs.Document.{and_row, is_listed, key_document, order_document, order_url, order_with_names, rows_of}
-use Rattle.desk_model.specs.Effect.{effect, fresh_authorization, fresh_order, has_row, moved_authorization, moved_order, new_authorizations, touches_order}
-use Rattle.desk_model.specs.{Order.ordered_by, Questions.order_on, Tables.Tables}
-use Rattle.desk_model.specs.declared.{entry.Entry.Entry, reply.Reply.Reply, rows.AccountRow.AccountRow, rows.AuthorizationRow.AuthorizationRow}
-use Rattle.desk_model.specs.declared.{rows.OrderRow.OrderRow}
+use Rattle.desk_model.specs.Effect.{effect, fresh_authorization, has_row, moved_authorization, moved_order, new_authorizations, touches_order}
 use Rattle.desk_model.specs.Shown.{at, account_reply, authorization_reply, certificate_reply, challenge_in, client_challenge_in, located_account, made_account}
 use Rattle.desk_model.specs.Shown.{made_order, moved_reply, ok, reply_of, shown}
-use Rattle.desk_model.specs.Kept.{EachOf, IsClosed, Kept, restricted}
+use Rattle.desk_model.specs.{Json.document, Json.list, Derived.numbers_of, Derived.restated_authorization, Questions.order_on, Tables.Tables}
+use Rattle.desk_model.specs.{declared.entry.Entry.Entry, declared.reply.Reply.Reply, Kept.EachOf, Kept.IsClosed, Kept.Kept, Kept.restricted}
+use Rattle.desk_model.specs.declared.rows.{AccountRow.AccountRow, AuthorizationRow.AuthorizationRow, OrderRow.OrderRow}
 use Rattle.desk_model.specs.declared.verdict.Shows.TheVariants as show
 use Rattle.desk_model.specs.declared.verdict.Listing.TheVariants as listing
 use Rattle.desk_model.specs.declared.entry.Move.TheVariants as move
 use Rattle.model_laws.specs.Parts.{FreshKept}
-use Rattle.model_laws.proofs.Basics.{each, each-append, each-map, one_kept}
-use Rattle.model_laws.proofs.Chain.{order_number, up_kept}
-use Rattle.model_laws.proofs.Local.{filter_part, find_kept, moved_number}
-use Rattle.model_laws.proofs.{Recorded.made_up, MovedRows.has_row-moved}
-use Rattle.model_laws.proofs.Finds.{each_found, found_passes}
-use Rattle.model_lives.proofs.Listed.{KeepsListed}
-use Rattle.model_lives.proofs.Verdicts.{account_same, authorization_same, order_same, owner_same}
+use Rattle.model_laws.proofs.{Basics.each, Basics.each-append, Basics.each-map, Basics.one_kept, Chain.order_number, Chain.up_kept, Local.filter_part}
+use Rattle.model_laws.proofs.{Local.find_kept, Local.moved_number, Recorded.made_up, MovedRows.has_row-moved, Finds.each_found, Finds.found_passes}
+use Rattle.model_lives.proofs.{Listed.KeepsListed, Verdicts.account_same, Verdicts.authorization_same, Verdicts.order_same, Verdicts.owner_same}
 
 -- ---- what a part keeps after an entry
 
@@ -34,15 +27,7 @@ moved_listed e m before after row = one_kept (λ (o : OrderRow). numbers_of o.li
 
 -- with an order what it lists
 pub listed_after : (k : Kept) (S : Tables) (m : ℕ) (e : Entry) → IsClosed k S → FreshKept k S m e → KeepsListed k (effect m S e)
-listed_after k S m e closed fresh =
-    each-append _ (map (moved_order e m S.authorizations (effect m S e).authorizations) S.orders) _
-    (each-map _ (moved_order e m S.authorizations (effect m S e).authorizations) S.orders
-    (each _ _ S.orders (λ o f kept.
-    subst (EachOf (λ n. k.authorizations n ≡ true)) (sym (moved_listed e m S.authorizations (effect m S e).authorizations o))
-    (f (ap k.orders (sym (order_number e m S.authorizations (effect m S e).authorizations o)) ∙ kept))) closed.listed))
-    (each-map _ (λ o. restated_order m (effect m S e).authorizations (fresh_order o))
-    (ordered_by e m S.meta.policy (S.meta.counters.authorizations + 1) (S.meta.counters.orders + 1))
-    (each _ _ (ordered_by e m S.meta.policy (S.meta.counters.authorizations + 1) (S.meta.counters.orders + 1)) (λ o f kept. f) fresh))
+listed_after k S m e closed fresh = search (rules, each-append, each-map, each, moved_listed, order_number)
 
 -- the authorization of a challenge, among numbers that have all new ones
 pub owner_then : (w : ℕ → Bool) (S : Tables) (m : ℕ) (e : Entry) (n : ℕ) → ((j : ℕ) → S.meta.counters.authorizations < j → w j ≡ true) →
@@ -112,13 +97,7 @@ document_same k E o h = ap (λ rows. order_with_names E.meta.policy (map (λ a. 
 -- shown by any reply that takes its document
 order_by : (k : Kept) (E : Tables) (n : ℕ) (f : OrderRow → Data → Reply) → k.orders n ≡ true → KeepsListed k E →
     shown (λ o. f o (order_document (restricted k E) o)) (order_on (restricted k E) n) ≡ shown (λ o. f o (order_document E o)) (order_on E n)
-order_by k E n f h listed = ap (shown (λ o. f o (order_document (restricted k E) o))) (order_same k E n h) ∙ by (order_on E n) refl
-  where
-    by : (x : Option OrderRow) → order_on E n ≡ x → shown (λ o. f o (order_document (restricted k E) o)) x ≡ shown (λ o. f o (order_document E o)) x
-    by None e = refl
-    by (Some o) e =
-        let number : o.number ≡ n = eqb-true o.number n (found_passes (λ y. y.number == n) E.orders o e) in
-        ap (f o) (document_same k E o (each_found _ (λ y. y.number == n) E.orders o listed e (ap k.orders number ∙ h)))
+order_by k E n f h listed = grind (arith, order_same, found_passes, document_same, each_found)
 
 pub order_shown : (k : Kept) (E : Tables) (n : ℕ) → k.orders n ≡ true → KeepsListed k E → reply_of (restricted k E) (show.Order n) ≡ reply_of E (show.Order n)
 order_shown k E n h listed = order_by k E n (λ o d. ok 200 d) h listed

@@ -1,17 +1,13 @@
 -- A part that keeps the authorizations which a new order may use again lets it use the same.
-use Rattle.std.proofs.Common.{◌≡◌, ℕ, List, [], ◌∷◌, Option, Some, None, refl, ap, ◌∙◌, true, false, Bool, cond}
+use Rattle.std.proofs.Common.{◌≡◌, ℕ, List, [], ◌∷◌, Option, Some, None, refl, ap, true, false, Bool, cond, arith}
 use Rattle.std.specs.{Prelude.◌==◌, List.list_any}
-use Rattle.std.proofs.lemmas.Bool.{and_parts}
-use Rattle.desk_model.specs.{Authorization.is_valid, Legal.has_length, Limits.most_names, Lookup.holds, Tables.Tables, Verdict.check}
-use Rattle.desk_model.specs.Kept.{EachOf, Kept, restricted}
-use Rattle.desk_model.specs.Name.{Name, same_name}
-use Rattle.desk_model.specs.Questions.{order_end, serves, serving_on}
 use Rattle.desk_model.specs.Rules.{kept, left_by, names_asked, names_in, names_of, new_order_verdict, order_of, subproblems, wanted, wanted_by}
-use Rattle.desk_model.specs.declared.{payload.Identifier.Identifier, reply.Subproblem.Subproblem, rows.AuthorizationRow.AuthorizationRow}
-use Rattle.desk_model.specs.declared.{verdict.Verdict.TheVariants.Orders as orders, entry.Entry.TheVariants.Ordered as ordered}
+use Rattle.desk_model.specs.{Legal.has_length, Limits.most_names, Lookup.holds, Tables.Tables, Verdict.check, Kept.EachOf, Kept.Kept, Kept.restricted}
+use Rattle.desk_model.specs.{Name.Name, Name.same_name, Questions.order_end, Questions.serves, Questions.serving_on, declared.payload.Identifier.Identifier}
+use Rattle.desk_model.specs.{declared.reply.Subproblem.Subproblem, declared.rows.AuthorizationRow.AuthorizationRow}
+use Rattle.desk_model.specs.{declared.verdict.Verdict.TheVariants.Orders as orders, declared.entry.Entry.TheVariants.Ordered as ordered}
 use Rattle.desk_model.specs.declared.refusal.Refusal.TheVariants as refusal
-use Rattle.model_laws.proofs.{Basics.each, Local.find_part}
-use Rattle.model_laws.proofs.Finds.{each_found, found_passes}
+use Rattle.model_laws.proofs.{Basics.each, Local.find_part, Finds.each_found, Finds.found_passes}
 use Rattle.model_laws.specs.Parts.{ReusedKept}
 use Rattle.model_lives.proofs.Lists.{each_member}
 
@@ -27,26 +23,18 @@ IsAmong names name = (p : Name → Bool) → p name ≡ true → list_any p name
 -- so each that serves is kept
 serving_kept : (k : Kept) (S : Tables) (n : ℕ) (names : List Name) (name : Name) → KeepsAsked k S.authorizations n (Some names) → IsAmong names name →
     EachOf (λ r. serves n name (order_end S) r ≡ true → k.authorizations r.number ≡ true) S.authorizations
-serving_kept k S n names name asked among =
-    each _ _ S.authorizations (λ r f h.
-    let valid = and_parts (is_valid r.status) _ h in
-    let own = and_parts (r.account == n) _ valid.1 in
-    f (among (same_name r.name) (and_parts (same_name r.name name) _ own.1).0) own.0) asked
+serving_kept k S n names name asked among = grind (arith, each)
 
 -- and the part finds the same
 serving_same : (k : Kept) (S : Tables) (n : ℕ) (names : List Name) (name : Name) → KeepsAsked k S.authorizations n (Some names) → IsAmong names name →
     serving_on (restricted k S) n name ≡ serving_on S n name
-serving_same k S n names name asked among =
-    find_part (serves n name (order_end S)) (λ (r : AuthorizationRow). k.authorizations r.number) S.authorizations (serving_kept k S n names name asked among)
+serving_same k S n names name asked among = grind (arith, find_part, (serving_kept k S n names name asked among))
 
 -- each of some names gets the same
 wanted_same : (k : Kept) (S : Tables) (n : ℕ) (names some : List Name) (random : List ℕ) → KeepsAsked k S.authorizations n (Some names) →
     EachOf (IsAmong names) some → wanted (restricted k S) n some random ≡ wanted S n some random
 wanted_same k S n names [] random asked among = refl
-wanted_same k S n names (name ∷ some) random asked among =
-    ap (λ o. wanted_by o name random ∷ wanted (restricted k S) n some (left_by o name random)) (serving_same k S n names name asked among.0)
-    ∙ ap (λ rest. wanted_by (serving_on S n name) name random ∷ rest)
-    (wanted_same k S n names some (left_by (serving_on S n name) name random) asked among.1)
+wanted_same k S n names (name ∷ some) random asked among = grind (arith, (wanted_same k S n names some (left_by (serving_on S n name) name random) asked among.1), (serving_same k S n names name asked among.0))
 
 -- and what it uses again is kept
 pub wanted_kept : (k : Kept) (S : Tables) (n : ℕ) (names some : List Name) (random : List ℕ) → KeepsAsked k S.authorizations n (Some names) →

@@ -1,41 +1,37 @@
 -- What a verdict records may be recorded by the tables that it was given by.
-use Rattle.std.proofs.Common.{◌≡◌, ◌≤◌, ◌*◌, ℕ, List, [], ◌∷◌, length, Option, Some, None, Ok, Err, IsUtf8, IfSome, refl, subst, Bool, true, false, cond, not}
-use Rattle.std.specs.Prelude.{IsTrue, nat_le, ◌&&◌, ◌==◌, is_some, bytes_eq, option_and_then, Result}
+use Rattle.std.proofs.Common.{◌≡◌, ◌≤◌, ◌*◌, ℕ, List, [], length, Option, Some, None, IsUtf8, IfSome, refl, subst, Bool, true, not, arith, rules}
 use Rattle.std.proofs.lemmas.Bool.{and_from}
-use Rattle.desk_model.specs.Authorization.{is_live, is_pending}
-use Rattle.desk_model.specs.declared.{refusal.Refusal.Refusal, entry.Entry.Entry, entry.Move.Move, entry.Outcome.Outcome, call.OrderProblem.OrderProblem}
-use Rattle.desk_model.specs.declared.{objects.Nonce.Nonce, rows.AccountRow.AccountRow, rows.ChallengeRow.ChallengeRow, rows.AuthorizationRow.AuthorizationRow}
-use Rattle.desk_model.specs.declared.{rows.OrderRow.OrderRow, payload.NewAccount.NewAccount, payload.AccountChange.AccountChange, payload.KeyChange.KeyChange}
-use Rattle.desk_model.specs.declared.{payload.AuthorizationChange.AuthorizationChange, payload.ChallengeChange.ChallengeChange, payload.Identifier.Identifier}
-use Rattle.desk_model.specs.declared.{verdict.Verdict.Verdict, verdict.Shows.Shows, reply.Subproblem.Subproblem, call.OfficeAsk.OfficeAsk, call.BadKey.BadKey}
-use Rattle.desk_model.specs.declared.{call.Finding.Finding, call.Signed.Signed, call.Target.Target}
-use Rattle.desk_model.specs.declared.refusal.Refusal.TheVariants as refusal
-use Rattle.desk_model.specs.{Keys.IsKeyText, Entry.entry_of, Account.is_valid as is_valid_account, Contact.contacts_fault, Tables.Tables, Allowed.may_on}
-use Rattle.desk_model.specs.{Texts.IsTextProblem}
-use Rattle.desk_model.specs.declared.entry.Entry.TheVariants.{Opened as opened, Ordered as ordered}
-use Rattle.desk_model.specs.Limits.{longest_certificate, longest_csr, most_names}
-use Rattle.desk_model.specs.Order.{is_ready, is_processing}
-use Rattle.desk_model.specs.Tokens.{NonceText, from_base64url, nonce_in}
+use Rattle.std.specs.Prelude.{IsTrue, nat_le, ◌&&◌, is_some, option_and_then}
 use Rattle.desk_model.specs.Legal.{IsFormed, has_length, is_pending_challenge, is_problem, is_processing_challenge}
 use Rattle.desk_model.specs.Questions.{account_on, account_with_key, challenge_of, order_on, authorization_on, owner_on, nonce_on}
+use Rattle.desk_model.specs.Verdict.{check, given, unless_fault, choose}
+use Rattle.desk_model.specs.Rules.{open_account, unknown_key_verdict, account_verdict, key_change_verdict, rekey_verdict, order_of, new_order_verdict}
+use Rattle.desk_model.specs.Rules.{subproblems, if_fits, csr_in, finalize_verdict, authorization_verdict, stands_open, challenge_verdict, own, target_verdict}
+use Rattle.desk_model.specs.Rules.{holder_verdict, key_verdict, signed_verdict, open_nonce_in, open_nonce, outcome_verdict, report_verdict, certify_verdict}
+use Rattle.desk_model.specs.Rules.{fail_verdict, revoke_authorization, revoke_account, office_verdict}
+use Rattle.desk_model.specs.{Authorization.is_live, Authorization.is_pending, Keys.IsKeyText, Entry.entry_of, Account.is_valid as is_valid_account}
+use Rattle.desk_model.specs.{Contact.contacts_fault, Tables.Tables, Allowed.may_on, Texts.IsTextProblem, Limits.longest_certificate, Limits.longest_csr}
+use Rattle.desk_model.specs.{Limits.most_names, Order.is_ready, Order.is_processing, Tokens.NonceText, Tokens.from_base64url, Tokens.nonce_in, Run.pieces_of}
+use Rattle.desk_model.specs.{Run.IsFormedOfficeAsk, Run.IsFormedSigned}
+use Rattle.desk_model.specs.declared.verdict.Verdict.TheVariants.{Answers as answers, Opens as opens, Orders as orders, Moves as moves, Refused as refused}
+use Rattle.desk_model.specs.declared.{refusal.Refusal.Refusal, entry.Entry.Entry, entry.Move.Move, entry.Outcome.Outcome, call.OrderProblem.OrderProblem}
+use Rattle.desk_model.specs.declared.{rows.AccountRow.AccountRow, rows.ChallengeRow.ChallengeRow, rows.AuthorizationRow.AuthorizationRow}
+use Rattle.desk_model.specs.declared.{rows.OrderRow.OrderRow, payload.NewAccount.NewAccount, payload.AccountChange.AccountChange, payload.KeyChange.KeyChange}
+use Rattle.desk_model.specs.declared.{payload.AuthorizationChange.AuthorizationChange, payload.ChallengeChange.ChallengeChange, payload.Identifier.Identifier}
+use Rattle.desk_model.specs.declared.{verdict.Verdict.Verdict, verdict.Shows.Shows, reply.Subproblem.Subproblem, call.OfficeAsk.OfficeAsk, call.Finding.Finding}
+use Rattle.desk_model.specs.declared.{call.Signed.Signed, call.Target.Target, entry.Entry.TheVariants.Opened as opened}
+use Rattle.desk_model.specs.declared.{entry.Entry.TheVariants.Ordered as ordered}
+use Rattle.desk_model.specs.declared.refusal.Refusal.TheVariants as refusal
 use Rattle.desk_model.specs.declared.payload.AccountChange.TheVariants as change
 use Rattle.desk_model.specs.declared.payload.AuthorizationChange.TheVariants as authz_change
 use Rattle.desk_model.specs.declared.payload.ChallengeChange.TheVariants as chall_change
-use Rattle.desk_model.specs.Run.{pieces_of, IsFormedKey, IsFormedOfficeAsk, IsFormedSigned}
-use Rattle.desk_model.specs.Verdict.{check, given, unless_fault, choose}
-use Rattle.desk_model.specs.declared.verdict.Verdict.TheVariants.{Answers as answers, Opens as opens, Orders as orders, Moves as moves, Refused as refused}
-use Rattle.desk_model.specs.Rules.{open_account, unknown_key_verdict, account_verdict, key_change_verdict, rekey_verdict, order_of, new_order_verdict}
-use Rattle.desk_model.specs.Rules.{subproblems, if_fits, csr_in, finalize_verdict, authorization_verdict, stands_open, challenge_verdict, own, target_verdict}
-use Rattle.desk_model.specs.Rules.{holder_verdict, key_verdict, signed_verdict, if_spelled, open_nonce_in, open_nonce, outcome_verdict, report_verdict}
-use Rattle.desk_model.specs.Rules.{certify_verdict, fail_verdict, revoke_authorization, revoke_account, office_verdict}
 use Rattle.desk_model.specs.declared.call.OfficeAsk.TheVariants as office
 use Rattle.desk_model.specs.declared.call.Target.TheVariants as to
 use Rattle.model_laws.specs.{Later.IsLater, Ordered.IsOrdered}
 use Rattle.model_laws.proofs.{RowLists.ascends_found, Finds.each_found}
-use Rattle.model_lives.proofs.KeyPayloads.{ChangesToKey, key_change_formed}
-use Rattle.model_lives.proofs.Names.{wanted_fits}
 use Rattle.model_lives.proofs.Steps.{check_keeps, choose_keeps, fault_keeps, given_keeps}
 use Rattle.model_lives.proofs.PayloadTexts.{AsksWithTexts, ChangesToTexts, account_change_texts, new_account_texts}
+use Rattle.model_lives.proofs.{KeyPayloads.ChangesToKey, KeyPayloads.key_change_formed, Names.wanted_fits}
 
 -- the entry may be recorded by these tables
 pub record MayRecord (T : Tables) (e : Entry) : Type 0 where
@@ -112,8 +108,7 @@ account_sound r T n a (change.Update (Some contacts)) texts found valid =
 rekey_sound : (r : List ℕ) (T : Tables) (n : ℕ) (a : AccountRow) (key : List ℕ) (o : Option AccountRow) → IsKeyText key → account_on T n ≡ Some a →
     is_valid_account a.status ≡ true → account_with_key T key ≡ o →
     IsSound r T (rekey_verdict n key o)
-rekey_sound r T n a key None formed found valid free = move_sound _ tt formed (rw (found, free) (and_from _ _ valid refl))
-rekey_sound r T n a key (Some holder) formed found valid is = record { records = tt }
+rekey_sound r T n a key o h k l g = grind arith
 
 -- a key change of an account that is valid
 key_change_sound : (r : List ℕ) (T : Tables) (n : ℕ) (a : AccountRow) (c : KeyChange) → ChangesToKey c → account_on T n ≡ Some a →
@@ -129,27 +124,17 @@ key_change_sound r T n a c formed found valid =
 order_sound : (r : List ℕ) (T : Tables) (n : ℕ) (a : AccountRow) (ids : List Identifier) (ss : List Subproblem) → IsOrdered T → account_on T n ≡ Some a →
     is_valid_account a.status ≡ true → has_length 1 most_names ids ≡ true → subproblems ids ≡ ss →
     IsSound r T (order_of T r n ids ss)
-order_sound r T n a ids (s ∷ ss) in_order found valid fits is = refused_sound _ (s ∷ ss)
-order_sound r T n a ids [] in_order found valid fits is =
-    record {
-      records = λ enough. record { later = tt; formed = tt; allowed = rw found (and_from _ _ valid (wanted_fits T n ids r in_order fits is enough)) };
-    }
+order_sound r T n a ids ss h k l g e = grind (arith, wanted_fits)
 
 -- newOrder
 new_order_sound : (r : List ℕ) (T : Tables) (n : ℕ) (a : AccountRow) (ids : List Identifier) → IsOrdered T → account_on T n ≡ Some a →
     is_valid_account a.status ≡ true →
     IsSound r T (new_order_verdict T r n ids)
-new_order_sound r T n a ids in_order found valid =
-    check_sound r T _ refusal.Malformed _ (λ fits. order_sound r T n a ids (subproblems ids) in_order found valid fits refl)
+new_order_sound r T n a ids in_order found valid = grind (arith, check_sound, order_sound)
 
 -- a CSR has its length
 csr_length : (o : Option (List ℕ)) (csr : List ℕ) → option_and_then if_fits o ≡ Some csr → has_length 1 longest_csr csr ≡ true
-csr_length None csr h = cc
-csr_length (Some x) csr h = by (has_length 1 longest_csr x) refl h
-  where
-    by : (b : Bool) → has_length 1 longest_csr x ≡ b → cond {A = Option (List ℕ)} b (Some x) None ≡ Some csr → has_length 1 longest_csr csr ≡ true
-    by true e k = let same : x ≡ csr = cc in rw (← same) e
-    by false e k = cc
+csr_length o csr h = grind arith
 
 -- an order that is ready is finalized
 finalize_sound : (r : List ℕ) (T : Tables) (n : ℕ) (o : OrderRow) (text : List ℕ) → order_on T n ≡ Some o → IsSound r T (finalize_verdict n o text)
@@ -175,12 +160,7 @@ challenge_sound r T n a chall_change.Answer found =
 
 -- the account's own object is found
 pub own_found : {X : Type 0} (account : X → ℕ) (n : ℕ) (o : Option X) (x : X) → own account n o ≡ Some x → o ≡ Some x
-own_found account n None x h = cc
-own_found account n (Some y) x h = by (account y == n) h
-  where
-    by : (b : Bool) → cond {A = Option _} b (Some y) None ≡ Some x → Some y ≡ Some x
-    by true e = e
-    by false e = cc
+own_found account n o x h = grind arith
 
 -- a request of an account that is valid
 target_sound : (r : List ℕ) (T : Tables) (n : ℕ) (a : AccountRow) (p : List ℕ) (t : Target) → IsOrdered T → IsUtf8 p → account_on T n ≡ Some a →
@@ -209,15 +189,12 @@ target_sound r T n a p (to.Chall k) in_order text found valid =
 
 -- an account that is found by its key is found by its number
 pub key_number : (T : Tables) (key : List ℕ) (a : AccountRow) → IsOrdered T → account_with_key T key ≡ Some a → account_on T a.number ≡ Some a
-key_number T key a in_order found =
-    each_found (λ (x : AccountRow). account_on T x.number ≡ Some x) (λ a. bytes_eq a.key key) T.accounts a
-    (ascends_found (λ (x : AccountRow). x.number) 1 T.accounts in_order.accounts.0) found
+key_number T key a in_order found = grind (arith, each_found, ascends_found)
 
 -- a request of the holder of an account
 holder_sound : (r : List ℕ) (T : Tables) (key p : List ℕ) (t : Target) (a : AccountRow) → IsOrdered T → IsUtf8 p → account_with_key T key ≡ Some a →
     IsSound r T (holder_verdict T r p t a)
-holder_sound r T key p t a in_order text is =
-    check_sound r T _ refusal.Unauthorized _ (λ valid. target_sound r T a.number a p t in_order text (key_number T key a in_order is) valid)
+holder_sound r T key p t a in_order text is = grind (arith, check_sound, target_sound, key_number)
 
 -- a request of a key without an account
 unknown_key_sound : (r : List ℕ) (T : Tables) (key p : List ℕ) (t : Target) → IsKeyText key → IsUtf8 p → account_with_key T key ≡ None →
@@ -235,12 +212,7 @@ key_sound r T key p t in_order formed text (Some a) is = holder_sound r T key p 
 
 -- a signed request
 pub signed_sound : (r : List ℕ) (T : Tables) (s : Signed) → IsOrdered T → IsFormedSigned s → IsSound r T (signed_verdict T r s)
-signed_sound r T s in_order formed = by s.key formed.key
-  where
-    by : (k : Result (List ℕ) BadKey) → IsFormedKey k →
-        IsSound r T (elim k [ Err e ↦ refused refusal.BadPublicKey [] | Ok key ↦ key_verdict T r key s.payload s.target (account_with_key T key) ])
-    by (Err e) h = refused_sound refusal.BadPublicKey []
-    by (Ok key) h = key_sound r T key s.payload s.target in_order h formed.payload (account_with_key T key) refl
+signed_sound r T s in_order formed = grind (arith, key_sound)
 
 -- ---- the other asks
 
@@ -254,9 +226,7 @@ outcome_sound r T n a c outcome found own =
 
 -- a report
 report_sound : (r : List ℕ) (T : Tables) (n : ℕ) (finding : Finding) → IsSound r T (report_verdict T n finding)
-report_sound r T n finding =
-    given_sound r T _ refusal.NotFound _ (λ a is. given_sound r T _ refusal.NotFound _
-    (λ c own. given_sound r T _ refusal.Malformed _ (λ o _. outcome_sound r T n a c o is own)))
+report_sound r T n finding = search (rules, given_sound, outcome_sound)
 
 -- a certificate
 certify_sound : (r : List ℕ) (T : Tables) (n : ℕ) (bytes : List ℕ) (o : OrderRow) → order_on T n ≡ Some o → IsSound r T (certify_verdict n bytes o)
@@ -295,20 +265,9 @@ office_sound r T _ formed = none_sound _
 
 -- ---- nonces
 
--- the nonce that a request carries may be spent
-spelled_serial : (T : Tables) (t : NonceText) (o : Option Nonce) (serial : ℕ) → nonce_on T t.serial ≡ o → if_spelled t o ≡ Some serial →
-    is_some (nonce_on T serial) ≡ true
-spelled_serial T t None serial is h = cc
-spelled_serial T t (Some n) serial is h = by (bytes_eq n.random t.random) h
-  where
-    by : (b : Bool) → cond {A = Option ℕ} b (Some t.serial) None ≡ Some serial → is_some (nonce_on T serial) ≡ true
-    by true k = let same : t.serial ≡ serial = cc in rw (← same, is) refl
-    by false k = cc
-
 -- and so in any form
 carried_serial : (T : Tables) (o : Option NonceText) (serial : ℕ) → open_nonce_in T o ≡ Some serial → is_some (nonce_on T serial) ≡ true
-carried_serial T None serial h = cc
-carried_serial T (Some t) serial h = spelled_serial T t (nonce_on T t.serial) serial refl h
+carried_serial T o serial h = grind arith
 
 -- an open nonce stands in the tables
 pub open_serial : (T : Tables) (text : Option (List ℕ)) (serial : ℕ) → open_nonce T text ≡ Some serial → is_some (nonce_on T serial) ≡ true

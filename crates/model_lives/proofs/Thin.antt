@@ -1,21 +1,15 @@
 -- Rows without some of what belongs to them: what they are found by, how they are swept, and what is carried out by them.
-use Rattle.std.proofs.Common.{◌≡◌, ◌≤◌, ◌<◌, ◌+◌, ℕ, List, [], ◌∷◌, map, filter, Option, Some, None, refl, sym, ap, subst, ◌∙◌, true, false, Bool, cond}
+use Rattle.std.proofs.Common.{◌≡◌, ◌≤◌, ◌<◌, ◌+◌, ℕ, List, [], ◌∷◌, map, filter, Option, refl, sym, ap, subst, ◌∙◌, true, false, Bool, arith, rules}
 use Rattle.std.specs.Prelude.{◌==◌, ◌&&◌, ◌||◌, if◌then◌else◌, nat_lt, option_map}
-use Rattle.desk_model.specs.Decide.{entries_of, verdict_reply}
-use Rattle.desk_model.specs.Derived.{authorization_numbered, numbers_of}
-use Rattle.desk_model.specs.Document.{and_row, rows_of}
 use Rattle.desk_model.specs.Effect.{effects, falls, is_live_order, is_overdue, lists_one, swept, swept_authorization, swept_order}
-use Rattle.desk_model.specs.Kept.{EachOf, Kept, restricted}
-use Rattle.desk_model.specs.{Lookup.holds, Tables.Tables}
-use Rattle.desk_model.specs.declared.{rows.AuthorizationRow.AuthorizationRow, rows.ChallengeRow.ChallengeRow, rows.OrderRow.OrderRow, verdict.Verdict.Verdict}
-use Rattle.desk_model.specs.declared.status.AuthzStatus.TheVariants as authz
-use Rattle.desk_model.specs.declared.status.OrderStatus.TheVariants as order
+use Rattle.desk_model.specs.{Decide.entries_of, Decide.verdict_reply, Derived.authorization_numbered, Derived.numbers_of, Document.rows_of, Kept.EachOf}
+use Rattle.desk_model.specs.{Kept.Kept, Kept.restricted, Lookup.holds, Tables.Tables, declared.rows.AuthorizationRow.AuthorizationRow}
+use Rattle.desk_model.specs.{declared.rows.ChallengeRow.ChallengeRow, declared.rows.OrderRow.OrderRow, declared.verdict.Verdict.Verdict}
 use Rattle.model_laws.specs.Ordered.{IsOrdered, IsTable}
-use Rattle.model_laws.proofs.Basics.{each-map, each_all, find-map, list_any-same}
-use Rattle.model_laws.proofs.{Local.filter_all, RowLists.ascends_map}
+use Rattle.model_laws.proofs.{Basics.each-map, Basics.each_all, Basics.find-map, Basics.list_any-same, Local.filter_all, RowLists.ascends_map}
 use Rattle.model_lives.specs.AnswersAs.{CarriesOutAs}
-use Rattle.model_lives.proofs.Lists.{filter_nothing}
 use Rattle.model_lives.specs.Thinned.{all_challenges, all_whole, in_whole, no_challenges, thin, thinned, with_challenges, with_orders, without_challenges}
+use Rattle.model_lives.proofs.Lists.{filter_nothing}
 
 -- ---- rows in whole
 
@@ -26,16 +20,14 @@ whole_authorizations (r ∷ rs) =
 
 -- no challenge is kept
 pub bare_authorizations : (rows : List AuthorizationRow) → map (with_challenges no_challenges) rows ≡ map without_challenges rows
-bare_authorizations [] = refl
-bare_authorizations (r ∷ rs) = λ i. record r { challenges = sym (filter_nothing r.challenges) i } ∷ bare_authorizations rs i
+bare_authorizations rows = grind (arith, filter_nothing)
 
 pub whole_orders : (rows : List OrderRow) → map (with_orders all_whole) rows ≡ rows
 whole_orders [] = refl
 whole_orders (o ∷ os) = ap (λ l. o ∷ l) (whole_orders os)
 
 pub thinned_whole : (k : Kept) (T : Tables) → thinned (in_whole k) T ≡ restricted k T
-thinned_whole k T =
-    λ i. record (restricted k T) { authorizations = whole_authorizations (restricted k T).authorizations i; orders = whole_orders (restricted k T).orders i }
+thinned_whole k T = grind (arith, whole_authorizations, whole_orders)
 
 -- ---- rows by number
 
@@ -51,14 +43,7 @@ table_thin number f same last xs h = (
     below (y ∷ ys) k = (subst (λ n. n < last + 1) (sym (same y)) k.0, below ys k.1)
 
 pub thin_ordered : (c : ℕ → ChallengeRow → Bool) (l : ℕ → Bool) (T : Tables) → IsOrdered T → IsOrdered (thin c l T)
-thin_ordered c l T h =
-    record {
-      nonces = h.nonces;
-      accounts = h.accounts;
-      authorizations = table_thin (λ (a : AuthorizationRow). a.number) (with_challenges c) (λ a. refl) T.meta.counters.authorizations T.authorizations
-          h.authorizations;
-      orders = table_thin (λ (o : OrderRow). o.number) (with_orders l) (λ o. refl) T.meta.counters.orders T.orders h.orders;
-    }
+thin_ordered c l T h = search (rules, table_thin)
 
 -- ---- look-ups
 
@@ -73,32 +58,19 @@ overdue_thin c m rows ns =
     list_any-same _ _ ns (λ n. ap (holds (is_overdue m)) (found_thin c n rows) ∙ by (authorization_numbered n rows))
   where
     by : (o : Option AuthorizationRow) → holds (is_overdue m) (option_map (with_challenges c) o) ≡ holds (is_overdue m) o
-    by None = refl
-    by (Some r) = refl
+    by o = grind arith
 
 -- what shows no challenge of the rows that an order lists shows the same
 pub rows_thin : {Y : Type 0} (f : AuthorizationRow → Y) (c : ℕ → ChallengeRow → Bool) → ((r : AuthorizationRow) → f (with_challenges c r) ≡ f r) →
     (rows : List AuthorizationRow) (ns : List ℕ) → map f (rows_of (map (with_challenges c) rows) ns) ≡ map f (rows_of rows ns)
 rows_thin f c same rows [] = refl
-rows_thin f c same rows (n ∷ ns) =
-    ap (λ o. map f (and_row o (rows_of (map (with_challenges c) rows) ns))) (found_thin c n rows)
-    ∙ by (authorization_numbered n rows) (rows_thin f c same rows ns)
-  where
-    by : (o : Option AuthorizationRow) → map f (rows_of (map (with_challenges c) rows) ns) ≡ map f (rows_of rows ns) →
-        map f (and_row (option_map (with_challenges c) o) (rows_of (map (with_challenges c) rows) ns)) ≡ map f (and_row o (rows_of rows ns))
-    by None ih = ih
-    by (Some r) ih = λ i. same r i ∷ ih i
+rows_thin f c same rows (n ∷ ns) = grind (arith, found_thin, (rows_thin f c same rows ns))
 
 -- ---- the passing of time
 
 pub swept_authorization_thin : (c : ℕ → ChallengeRow → Bool) (m : ℕ) (r : AuthorizationRow) →
     swept_authorization m (with_challenges c r) ≡ with_challenges c (swept_authorization m r)
-swept_authorization_thin c m r = by (is_overdue m r)
-  where
-    by : (b : Bool) → cond b (record (with_challenges c r) { status = authz.Expired }) (with_challenges c r)
-        ≡ with_challenges c (cond b (record r { status = authz.Expired }) r)
-    by true = refl
-    by false = refl
+swept_authorization_thin c m r = grind arith
 
 swept_authorizations_thin : (c : ℕ → ChallengeRow → Bool) (m : ℕ) (rows : List AuthorizationRow) →
     map (swept_authorization m) (map (with_challenges c) rows) ≡ map (with_challenges c) (map (swept_authorization m) rows)
@@ -111,10 +83,7 @@ pub falls_thin : (c : ℕ → ChallengeRow → Bool) (l : ℕ → Bool) (m : ℕ
 falls_thin c l m rows o kept = by (l o.number) kept
   where
     without : (live past one : Bool) → ((live && (past || one)) ≡ true → false ≡ true) → (live && (past || false)) ≡ (live && (past || one))
-    without false past one h = refl
-    without true true one h = refl
-    without true false true h = absurd (let no : false ≡ true = h refl in cc)
-    without true false false h = refl
+    without live past one k = grind arith
 
     by : (b : Bool) → (falls m rows o ≡ true → b ≡ true) →
         (is_live_order o.status
@@ -125,13 +94,7 @@ falls_thin c l m rows o kept = by (l o.number) kept
 swept_order_thin : (c : ℕ → ChallengeRow → Bool) (l : ℕ → Bool) (m : ℕ) (rows : List AuthorizationRow) (o : OrderRow) →
     (falls m rows o ≡ true → l o.number ≡ true) →
     swept_order m (map (with_challenges c) rows) (with_orders l o) ≡ with_orders l (swept_order m rows o)
-swept_order_thin c l m rows o kept =
-    ap (λ b. cond b (record (with_orders l o) { status = order.Invalid }) (with_orders l o)) (falls_thin c l m rows o kept) ∙ by (falls m rows o)
-  where
-    by : (b : Bool) → cond b (record (with_orders l o) { status = order.Invalid }) (with_orders l o)
-        ≡ with_orders l (cond b (record o { status = order.Invalid }) o)
-    by true = refl
-    by false = refl
+swept_order_thin c l m rows o kept = grind (arith, (falls_thin c l m rows o kept))
 
 -- each order that falls is kept whole
 abbrev pub KeepsFallingWhole : (ℕ → Bool) → ℕ → Tables → Type 0
@@ -156,12 +119,7 @@ all_falling m T = each_all _ T.orders (λ o falling. refl)
 -- one test after the other
 filter_both : {X : Type 0} (p q : X → Bool) (xs : List X) → filter q (filter p xs) ≡ filter (λ x. p x && q x) xs
 filter_both p q [] = refl
-filter_both p q (x ∷ xs) = by (p x) (filter_both p q xs)
-  where
-    by : (b : Bool) → filter q (filter p xs) ≡ filter (λ y. p y && q y) xs →
-        filter q (cond b (x ∷ filter p xs) (filter p xs)) ≡ cond (b && q x) (x ∷ filter (λ y. p y && q y) xs) (filter (λ y. p y && q y) xs)
-    by true ih = ap (λ l. cond (q x) (x ∷ l) l) ih
-    by false ih = ih
+filter_both p q (x ∷ xs) = grind (arith, (filter_both p q xs))
 
 -- some of some challenges
 thin_both : (c d : ℕ → ChallengeRow → Bool) (rows : List AuthorizationRow) →
@@ -175,14 +133,10 @@ pub carries_thin : (T P : Tables) (m : ℕ) (v : Verdict) (c : ℕ → Challenge
     ((index : Bool) → verdict_reply index (thin c l (effects m (swept m P) (entries_of v))) v
     ≡ verdict_reply index (effects m (swept m P) (entries_of v)) v) →
     CarriesOutAs m T P v → CarriesOutAs m T (thin c l P) v
-carries_thin T P m v c l after same h =
-    record {
-      kept = h.kept;
-      challenges = λ n x. h.challenges n x && c n x;
-      authorizations =
-          ap (λ (E : Tables). E.authorizations) after ∙ ap (map (with_challenges c)) h.authorizations
-          ∙ thin_both h.challenges c (filter h.kept (effects m (swept m T) (entries_of v)).authorizations);
-      ends = λ n all. subst (EachOf (λ o. o.expires ≤ n)) (sym (ap (λ (E : Tables). E.orders) after))
-          (each-map _ (with_orders l) (effects m (swept m P) (entries_of v)).orders (h.ends n all));
-      shows = λ index. ap (λ E. verdict_reply index E v) after ∙ same index ∙ h.shows index;
-    }
+carries_thin T P m v c l after same h = record {
+  kept = h.kept;
+  challenges = λ n x. h.challenges n x && c n x;
+  authorizations = grind (arith, thin_both);
+  ends = λ n all. subst (EachOf (λ o. o.expires ≤ n)) (sym (ap (λ (E : Tables). E.orders) after)) (each-map _ (with_orders l) (effects m (swept m P) (entries_of v)).orders (h.ends n all));
+  shows = λ index. ap (λ E. verdict_reply index E v) after ∙ same index ∙ h.shows index;
+}

@@ -1,29 +1,24 @@
 -- Of what a call neither names nor moves authorizations need no challenges: the verdict, what it records and what it shows stay the same.
-use Rattle.std.proofs.Common.{◌≡◌, ℕ, List, [], ◌∷◌, map, find, Option, Some, None, refl, sym, ap, subst, ◌∙◌, true, false, Bool, not, Result, Ok, Err, cond}
-use Rattle.std.proofs.Common.{filter}
-use Rattle.std.specs.Prelude.{◌==◌, ◌&&◌, bytes_eq, codes, nat_le, length, option_map}
+use Rattle.std.proofs.Common.{◌≡◌, ℕ, List, [], ◌∷◌, find, Option, Some, None, refl, sym, ap, subst, ◌∙◌, true, Bool, not, Result, Ok, Err, arith, rules}
 use Rattle.std.proofs.lemmas.Bool.{eqb-true, or_left}
-use Rattle.serde_json.specs.Data.{Data, string}
-use Rattle.desk_model.specs.{Account.is_valid as is_valid_account, Contact.contacts_fault, Entry.entry_of, Kept.EachOf, Lookup.holds, Name.Name, Tables.Tables}
-use Rattle.desk_model.specs.{Touched.is_named_account, Derived.numbers_of}
+use Rattle.std.specs.Prelude.{◌==◌, ◌&&◌, bytes_eq, nat_le, length, option_map}
+use Rattle.serde_json.specs.Data.{Data}
 use Rattle.desk_model.specs.Asked.{asks_authorizations, names_authorization, names_owner}
-use Rattle.desk_model.specs.Authorization.{is_live, is_pending}
-use Rattle.desk_model.specs.Decide.{entries_of, verdict_reply}
-use Rattle.desk_model.specs.Document.{account_url, expected, is_listed, order_document, order_url, order_with_names}
-use Rattle.desk_model.specs.Effect.{effect, effects, has_row, is_overdue, swept, swept_authorization, touches_authorization}
-use Rattle.desk_model.specs.Json.{document, list}
+use Rattle.desk_model.specs.Document.{account_url, expected, order_document, order_url}
+use Rattle.desk_model.specs.Effect.{effect, effects, has_row, is_overdue, swept, touches_authorization}
 use Rattle.desk_model.specs.Legal.{has_length, is_pending_challenge, is_problem, is_processing_challenge}
-use Rattle.desk_model.specs.Limits.{longest_certificate, most_names}
-use Rattle.desk_model.specs.Order.{is_processing, is_ready}
 use Rattle.desk_model.specs.Payload.{account_change, authorization_change, challenge_change, finalize, key_change, new_account, new_order}
 use Rattle.desk_model.specs.Questions.{account_on, account_with_key, authorization_on, challenge_of, order_end, order_on, owner_on, serves, serving_on}
-use Rattle.desk_model.specs.Rules.{account_verdict, authorization_verdict, certify_verdict, challenge_verdict, csr_in, fail_verdict}
-use Rattle.desk_model.specs.Rules.{finding_verdict, has_this_key, is_revoked, is_revoked_status, kept, key_verdict, left_by, names_in}
-use Rattle.desk_model.specs.Rules.{new_order_verdict, nothing, office_verdict, open_nonce, order_of, outcome_of, own, rekey_verdict, report_verdict}
-use Rattle.desk_model.specs.Rules.{revoke_account, revoke_authorization, same_outcome, same_problem, signed_verdict, stands_open, subproblems, target_verdict}
-use Rattle.desk_model.specs.Rules.{wanted, wanted_by}
+use Rattle.desk_model.specs.Rules.{account_verdict, authorization_verdict, certify_verdict, challenge_verdict, csr_in, fail_verdict, has_this_key, is_revoked}
+use Rattle.desk_model.specs.Rules.{is_revoked_status, kept, key_verdict, names_in, new_order_verdict, nothing, office_verdict, open_nonce, order_of, outcome_of}
+use Rattle.desk_model.specs.Rules.{own, rekey_verdict, report_verdict, revoke_account, revoke_authorization, same_outcome, same_problem, signed_verdict}
+use Rattle.desk_model.specs.Rules.{stands_open, subproblems, target_verdict, wanted}
 use Rattle.desk_model.specs.Shown.{at, authorization_reply, certificate_reply, challenge_in, client_challenge_in, moved_reply, ok, reply_of, shown}
-use Rattle.desk_model.specs.Verdict.{check, given}
+use Rattle.desk_model.specs.{Account.is_valid as is_valid_account, Contact.contacts_fault, Entry.entry_of, Kept.EachOf, Lookup.holds, Name.Name, Tables.Tables}
+use Rattle.desk_model.specs.{Touched.is_named_account, Authorization.is_live, Authorization.is_pending, Decide.entries_of, Decide.verdict_reply}
+use Rattle.desk_model.specs.{Limits.longest_certificate, Limits.most_names, Order.is_processing, Order.is_ready, Verdict.check, Verdict.given}
+use Rattle.desk_model.specs.declared.entry.Entry.TheVariants.{Answered as answered, Issued as issued, Ordered as ordered, Spent as spent}
+use Rattle.desk_model.specs.declared.verdict.Verdict.TheVariants.{Answers as answers, Moves as moves, Opens as opens, Orders as orders}
 use Rattle.desk_model.specs.declared.{call.Ask.Ask, call.BadKey.BadKey, call.Finding.Finding, call.OrderProblem.OrderProblem, call.OfficeAsk.OfficeAsk}
 use Rattle.desk_model.specs.declared.{call.Signed.Signed, call.Target.Target, entry.Entry.Entry, entry.Move.Move, payload.AccountChange.AccountChange}
 use Rattle.desk_model.specs.declared.{payload.AuthorizationChange.AuthorizationChange, payload.ChallengeChange.ChallengeChange, payload.Identifier.Identifier}
@@ -32,7 +27,6 @@ use Rattle.desk_model.specs.declared.{rows.OrderRow.OrderRow, verdict.Shows.Show
 use Rattle.desk_model.specs.declared.call.Ask.TheVariants as ask
 use Rattle.desk_model.specs.declared.call.OfficeAsk.TheVariants as office
 use Rattle.desk_model.specs.declared.call.Target.TheVariants as to
-use Rattle.desk_model.specs.declared.entry.Entry.TheVariants.{Answered as answered, Issued as issued, Ordered as ordered, Spent as spent}
 use Rattle.desk_model.specs.declared.entry.Move.TheVariants as move
 use Rattle.desk_model.specs.declared.payload.AccountChange.TheVariants as change
 use Rattle.desk_model.specs.declared.payload.AuthorizationChange.TheVariants as authz_change
@@ -40,21 +34,15 @@ use Rattle.desk_model.specs.declared.payload.ChallengeChange.TheVariants as chal
 use Rattle.desk_model.specs.declared.refusal.Refusal.TheVariants as refusal
 use Rattle.desk_model.specs.declared.verdict.Listing.TheVariants as listing
 use Rattle.desk_model.specs.declared.verdict.Shows.TheVariants as show
-use Rattle.desk_model.specs.declared.verdict.Verdict.TheVariants.{Answers as answers, Moves as moves, Opens as opens, Orders as orders}
 use Rattle.model_laws.proofs.Basics.{each, each_all, each-map, find-map}
-use Rattle.model_laws.proofs.{SweptParts.swept_account, Local.swept_number}
-use Rattle.model_laws.proofs.Finds.{each_found, found_passes}
-use Rattle.model_laws.proofs.Plain.{issued_effect, spent_effect}
+use Rattle.model_laws.proofs.{Finds.each_found, Finds.found_passes, Plain.issued_effect, Plain.spent_effect}
 use Rattle.model_lives.specs.AnswersAs.{AnswersAs, CarriesOutAs, IssuesAs, PassesAs, SettlesAs}
-use Rattle.model_lives.specs.MinimalPart.{is_end, changes_statuses}
-use Rattle.model_lives.specs.Thinned.{all_whole, with_challenges}
-use Rattle.model_lives.proofs.{Replies.owner_then, Lists.same_number, Ready.swept_named}
+use Rattle.model_lives.specs.{MinimalPart.is_end, MinimalPart.changes_statuses, Thinned.all_whole, Thinned.with_challenges}
 use Rattle.model_lives.proofs.Trimming.{AllWhole, AreWhole, NewWhole, trimmed, effects_trimmed, find_changed, recorded_trimmed, row_whole, swept_trimmed, those}
 use Rattle.model_lives.proofs.Trimming.{touches_trimmed}
 use Rattle.model_lives.proofs.Steps.{check_keeps, either_keeps, given_keeps, no_fault_keeps, own_same}
 use Rattle.model_lives.proofs.Thin.{carries_thin, found_thin, rows_thin, whole_orders}
-use Rattle.model_lives.proofs.Verdicts.{is_key, verdict_by}
-use Rattle.model_lives.proofs.Walks.{IsNoWork, sent}
+use Rattle.model_lives.proofs.{Replies.owner_then, Lists.same_number, Verdicts.is_key, Verdicts.verdict_by, Walks.IsNoWork, Walks.sent}
 
 -- ---- what is asked of the rows
 
@@ -100,11 +88,7 @@ found_trimmed : (w : ℕ → Bool) (S : Tables) (n : ℕ) → authorization_on (
 found_trimmed w S n = found_thin (those w) n S.authorizations
 
 authorization_trimmed : (w : ℕ → Bool) (S : Tables) (n : ℕ) → w n ≡ true → authorization_on (trimmed w S) n ≡ authorization_on S n
-authorization_trimmed w S n h = found_trimmed w S n ∙ by (authorization_on S n) refl
-  where
-    by : (o : Option AuthorizationRow) → authorization_on S n ≡ o → option_map (with_challenges (those w)) o ≡ o
-    by None is = refl
-    by (Some r) is = ap Some (row_whole w r (ap w (eqb-true r.number n (found_passes (λ a. a.number == n) S.authorizations r is)) ∙ h))
+authorization_trimmed w S n h = grind (arith, found_trimmed, row_whole, found_passes)
 
 order_trimmed : (w : ℕ → Bool) (S : Tables) (n : ℕ) → order_on (trimmed w S) n ≡ order_on S n
 order_trimmed w S n = ap (find (λ o. o.number == n)) (whole_orders S.orders)
@@ -117,16 +101,7 @@ serving_trimmed w S n name = find-map (serves n name (order_end S)) (with_challe
 
 wanted_trimmed : (w : ℕ → Bool) (S : Tables) (n : ℕ) (names : List Name) (random : List ℕ) → wanted (trimmed w S) n names random ≡ wanted S n names random
 wanted_trimmed w S n [] random = refl
-wanted_trimmed w S n (name ∷ names) random =
-    ap (λ o. wanted_by o name random ∷ wanted (trimmed w S) n names (left_by o name random)) (serving_trimmed w S n name)
-    ∙ by (serving_on S n name) (wanted_trimmed w S n names)
-  where
-    by : (o : Option AuthorizationRow) → ((rest : List ℕ) → wanted (trimmed w S) n names rest ≡ wanted S n names rest) →
-        wanted_by (option_map (with_challenges (those w)) o) name random
-        ∷ wanted (trimmed w S) n names (left_by (option_map (with_challenges (those w)) o) name random)
-        ≡ wanted_by o name random ∷ wanted S n names (left_by o name random)
-    by None ih = ap (λ rest. wanted_by None name random ∷ rest) (ih _)
-    by (Some r) ih = ap (λ rest. wanted_by (Some r) name random ∷ rest) (ih _)
+wanted_trimmed w S n (name ∷ names) random = grind (arith, serving_trimmed)
 
 new_order_trimmed : (w : ℕ → Bool) (S : Tables) (random : List ℕ) (n : ℕ) (ids : List Identifier) →
     new_order_verdict (trimmed w S) random n ids ≡ new_order_verdict S random n ids
@@ -143,30 +118,7 @@ judged_trimmed : (w : ℕ → Bool) (S : Tables) (n : ℕ) (p : List ℕ) (j : �
     ≡ given (own (λ (a : AuthorizationRow). a.account) n (authorization_on S j)) refusal.NotFound
     (λ a. given (authorization_change p) refusal.Malformed (authorization_verdict j a))
 unfolding given
-judged_trimmed w S n p j =
-    ap (λ o. given (own (λ (a : AuthorizationRow). a.account) n o) refusal.NotFound
-    (λ a. given (authorization_change p) refusal.Malformed (authorization_verdict j a))) (found_trimmed w S j)
-    ∙ by (authorization_on S j)
-  where
-    changed : (r : AuthorizationRow) (q : Option AuthorizationChange) →
-        given q refusal.Malformed (authorization_verdict j (with_challenges (those w) r)) ≡ given q refusal.Malformed (authorization_verdict j r)
-    changed r None = refl
-    changed r _ = refl
-
-    own_one : (r : AuthorizationRow) (b : Bool) →
-        given (cond b (Some (with_challenges (those w) r)) None) refusal.NotFound
-        (λ a. given (authorization_change p) refusal.Malformed (authorization_verdict j a))
-        ≡ given (cond b (Some r) None) refusal.NotFound (λ a. given (authorization_change p) refusal.Malformed (authorization_verdict j a))
-    own_one r true = changed r (authorization_change p)
-    own_one r false = refl
-
-    by : (o : Option AuthorizationRow) →
-        given (own (λ (a : AuthorizationRow). a.account) n (option_map (with_challenges (those w)) o)) refusal.NotFound
-        (λ a. given (authorization_change p) refusal.Malformed (authorization_verdict j a))
-        ≡ given (own (λ (a : AuthorizationRow). a.account) n o) refusal.NotFound
-        (λ a. given (authorization_change p) refusal.Malformed (authorization_verdict j a))
-    by None = refl
-    by (Some r) = own_one r (r.account == n)
+judged_trimmed w S n p j = grind (arith, found_trimmed)
 
 target_trimmed : (w : ℕ → Bool) (S : Tables) (r : List ℕ) (n : ℕ) (s : Signed) (t : Target) → KeepsWhole w S (sent s t) →
     target_verdict (trimmed w S) r n s.payload t ≡ target_verdict S r n s.payload t
@@ -194,16 +146,10 @@ signed_trimmed w S r s h = by s.key
 revoked_trimmed : (w : ℕ → Bool) (S : Tables) (n : ℕ) →
     given (authorization_on (trimmed w S) n) refusal.NotFound (revoke_authorization n) ≡ given (authorization_on S n) refusal.NotFound (revoke_authorization n)
 unfolding given
-revoked_trimmed w S n = ap (λ o. given o refusal.NotFound (revoke_authorization n)) (found_trimmed w S n) ∙ by (authorization_on S n)
-  where
-    by : (o : Option AuthorizationRow) → given (option_map (with_challenges (those w)) o) refusal.NotFound (revoke_authorization n)
-        ≡ given o refusal.NotFound (revoke_authorization n)
-    by None = refl
-    by (Some r) = refl
+revoked_trimmed w S n = grind (arith, found_trimmed)
 
 pub office_trimmed : (w : ℕ → Bool) (S : Tables) (a : OfficeAsk) → KeepsWhole w S (ask.Office a) → office_verdict (trimmed w S) a ≡ office_verdict S a
-office_trimmed w S (office.Report n finding) h =
-    ap (λ x. given x refusal.NotFound (λ a. given (challenge_of n a) refusal.NotFound (finding_verdict n finding a))) (owner_trimmed w S n h.owner)
+office_trimmed w S (office.Report n finding) h = grind (arith, owner_trimmed)
 office_trimmed w S (office.Certify n bytes) h = ap (λ x. given x refusal.NotFound (certify_verdict n bytes)) (order_trimmed w S n)
 office_trimmed w S (office.FailOrder n problem) h = ap (λ x. given x refusal.NotFound (fail_verdict n problem)) (order_trimmed w S n)
 office_trimmed w S (office.RevokeAuthz n) h = revoked_trimmed w S n
@@ -214,17 +160,10 @@ office_trimmed w S _ h = refl
 -- an order by any reply that takes its document, which shows names
 order_by_trimmed : (w : ℕ → Bool) (E : Tables) (n : ℕ) (f : OrderRow → Data → Reply) →
     shown (λ o. f o (order_document (trimmed w E) o)) (order_on (trimmed w E) n) ≡ shown (λ o. f o (order_document E o)) (order_on E n)
-order_by_trimmed w E n f = λ i. shown (λ o. f o (same o i)) (order_trimmed w E n i)
-  where
-    same : (o : OrderRow) → order_document (trimmed w E) o ≡ order_document E o
-    same o =
-        ap (λ names. order_with_names E.meta.policy names o)
-        (rows_thin (λ (a : AuthorizationRow). a.name) (those w) (λ r. refl) E.authorizations (numbers_of o.listed))
+order_by_trimmed w E n f = search (rules, order_trimmed, rows_thin)
 
 reply_trimmed : (w : ℕ → Bool) (E : Tables) (what : Shows) → shows_whole w E what → reply_of (trimmed w E) what ≡ reply_of E what
-reply_trimmed w E (show.List (listing.Orders n)) h =
-    ap (λ rows. ok 200 (document ((codes "orders", list (map (λ (o : OrderRow). string (order_url E.meta.policy o.number)) (filter (is_listed n) rows))) ∷ [])))
-    (whole_orders E.orders)
+reply_trimmed w E (show.List (listing.Orders n)) h = grind (arith, whole_orders)
 reply_trimmed w E (show.List listing.ChallengeWork) h = absurd h
 reply_trimmed w E (show.List listing.OrderWork) h = absurd h
 reply_trimmed w E (show.Order n) h = order_by_trimmed w E n (λ o d. ok 200 d)
@@ -270,18 +209,12 @@ move_touches w S _ h = each_all _ S.authorizations (λ r yes. cc)
 
 -- what a verdict's entries touch
 verdict_touches : (w : ℕ → Bool) (m : ℕ) (S : Tables) (v : Verdict) → ActsOnWhole w S v → AllWhole w m S (entries_of v)
-verdict_touches w m S (opens key contacts) h = (each_all _ S.authorizations (λ r yes. cc), tt)
-verdict_touches w m S (orders account ws) h = (each_all _ S.authorizations (λ r yes. cc), tt)
-verdict_touches w m S (moves v) h = (move_touches w S v h, tt)
-verdict_touches w m S _ h = tt
+verdict_touches w m S v h = grind (arith, each_all, move_touches)
 
 -- nonces touch none of them
 nonces_touch : (w : ℕ → Bool) (m : ℕ) (S : Tables) (n : ℕ) (r : List ℕ) (es : List Entry) → AllWhole w m (effect m (effect m S (spent n)) (issued r)) es →
     AllWhole w m S (spent n ∷ issued r ∷ es)
-nonces_touch w m S n r es h = (
-  each_all _ S.authorizations (λ r yes. cc),
-  (each_all _ (effect m S (spent n)).authorizations (λ r yes. cc), h),
-)
+nonces_touch w m S n r es h = grind (arith, each_all)
 
 -- also behind them
 later_touches : (w : ℕ → Bool) (m : ℕ) (S : Tables) (n : ℕ) (r : List ℕ) (v : Verdict) → ActsOnWhole w S v → AllWhole w m S (spent n ∷ issued r ∷ entries_of v)
@@ -370,12 +303,10 @@ challenge_on_whole w S j r chall_change.Read owner = owner
 challenge_on_whole w S j r chall_change.Answer owner = either_keeps (ActsOnWhole w S) (stands_open (λ c. is_pending_challenge c.status) r j) _ _ owner owner
 
 rekey_on_whole : (w : ℕ → Bool) (S : Tables) (n : ℕ) (key : List ℕ) (o : Option AccountRow) → ActsOnWhole w S (rekey_verdict n key o)
-rekey_on_whole w S n key None = tt
-rekey_on_whole w S n key (Some holder) = tt
+rekey_on_whole w S n key o = grind arith
 
 order_on_whole : (w : ℕ → Bool) (S : Tables) (r : List ℕ) (n : ℕ) (ids : List Identifier) (ss : List Subproblem) → ActsOnWhole w S (order_of S r n ids ss)
-order_on_whole w S r n ids [] = tt
-order_on_whole w S r n ids (s ∷ ss) = tt
+order_on_whole w S r n ids ss = grind arith
 
 target_on_whole : (w : ℕ → Bool) (S : Tables) (r : List ℕ) (x : AccountRow) (s : Signed) (t : Target) → KeepsWhole w S (sent s t) →
     (changes_statuses (sent s t) ≡ true → asks_authorizations (sent s t) ≡ true → AreWhole w (λ r. x.number == r.account) S.authorizations) →
@@ -441,15 +372,7 @@ signed_on_whole w S r s h = by s.key (λ x yes. or_left _ _ yes)
 
 -- the passing of time leaves what is in whole
 swept_on_whole : (w : ℕ → Bool) (S : Tables) (m : ℕ) (a : Ask) → KeepsWhole w S a → KeepsWhole w (swept m S) a
-swept_on_whole w S m a h =
-    record {
-      authorization = h.authorization;
-      owner = each-map _ (swept_authorization m) S.authorizations
-          (each _ _ S.authorizations (λ r f named. ap w (swept_number m r) ∙ f (sym (swept_named a m r) ∙ named)) h.owner);
-      own = each _ _ S.accounts (λ x f named ends asks. each-map _ (swept_authorization m) S.authorizations
-          (each _ _ S.authorizations (λ r g own_too. ap w (swept_number m r)
-          ∙ g (ap (λ n. x.number == n) (sym (swept_account m r)) ∙ own_too)) (f named ends asks))) h.own;
-    }
+swept_on_whole w S m a h = grind (arith, each-map, each)
 
 module _ (T S : Tables) (m : ℕ) (w : ℕ → Bool) (new : NewWhole w S) (past : AreWhole w (is_overdue m) S.authorizations) where
   carried_trimmed : (v : Verdict) → ActsOnWhole w (swept m S) v → CarriesOutAs m T S v → CarriesOutAs m T (trimmed w S) v

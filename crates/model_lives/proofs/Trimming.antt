@@ -1,27 +1,22 @@
 -- Authorizations without challenges, but for those that entries touch: entries do to them, and change, what they do to those in whole.
-use Rattle.std.proofs.Common.{◌≡◌, ◌+◌, ◌<◌, ℕ, List, [], ◌∷◌, ◌++◌, length, map, filter, find, Option, Some, None, refl, sym, ap, ◌∙◌, true, false, Bool}
-use Rattle.std.proofs.Common.{arith, cond}
-use Rattle.std.specs.Prelude.{◌==◌, ◌&&◌, ◌||◌, nat_lt, option_map}
+use Rattle.std.proofs.Common.{◌≡◌, ◌+◌, ◌<◌, ℕ, List, [], ◌∷◌, ◌++◌, length, map, filter, find, Option, refl, sym, ap, ◌∙◌, true, false, Bool, arith, cond}
 use Rattle.std.proofs.lemmas.List.{map-append}
+use Rattle.std.specs.Prelude.{◌&&◌, ◌||◌, nat_lt, option_map}
 use Rattle.desk_model.specs.Change.{accounts_put, all_changes, authorization_differs, authorizations_put, changes, moved_rows, nonces_gone, nonces_put}
 use Rattle.desk_model.specs.Change.{order_differs, orders_put, recorded_changes, spent_by, sweep_changes}
-use Rattle.desk_model.specs.Derived.{and_status, authorization_numbered, numbers_of, restated_authorization, restated_order, stored_statuses}
+use Rattle.desk_model.specs.Derived.{authorization_numbered, numbers_of, restated_authorization, restated_order, stored_statuses}
 use Rattle.desk_model.specs.Effect.{authorizations_after, effect, effects, falls, fresh_authorization, fresh_order, is_live_order, is_overdue}
 use Rattle.desk_model.specs.Effect.{moved_authorization, moved_order, names_order, new_authorizations, noted_authorization, noted_order, swept}
 use Rattle.desk_model.specs.Effect.{touches_authorization, touches_order}
-use Rattle.desk_model.specs.{Kept.EachOf, Lookup.holds, Order.ordered_by, Tables.Tables}
-use Rattle.desk_model.specs.declared.{entry.Entry.Entry, rows.AccountRow.AccountRow, rows.AuthorizationRow.AuthorizationRow, rows.ChallengeRow.ChallengeRow}
-use Rattle.desk_model.specs.declared.{rows.OrderRow.OrderRow}
-use Rattle.desk_model.specs.declared.entry.Entry.TheVariants.{AccountEnded as account_ended, AuthorizationEnded as authorization_ended}
 use Rattle.desk_model.specs.declared.rows.Change.TheVariants.{PutAccount, PutAuthorization, PutMeta, PutNonce, PutOrder, RemoveNonce}
+use Rattle.desk_model.specs.{Kept.EachOf, Lookup.holds, Order.ordered_by, Tables.Tables, declared.entry.Entry.Entry, declared.rows.AccountRow.AccountRow}
+use Rattle.desk_model.specs.{declared.rows.AuthorizationRow.AuthorizationRow, declared.rows.ChallengeRow.ChallengeRow, declared.rows.OrderRow.OrderRow}
 use Rattle.desk_model.specs.declared.status.AuthzStatus.TheVariants as authz
 use Rattle.desk_model.specs.declared.status.OrderStatus.TheVariants as order
 use Rattle.model_laws.proofs.Basics.{each, each_all, list_any-same}
-use Rattle.model_laws.proofs.{Chain.up_kept, Finds.each_found, OrderFacts.restated_alike, Recorded.made_up}
-use Rattle.model_laws.proofs.Local.{filter_all, moved_number}
+use Rattle.model_laws.proofs.{Chain.up_kept, Finds.each_found, OrderFacts.restated_alike, Recorded.made_up, Local.filter_all}
 use Rattle.model_lives.specs.Thinned.{all_whole, thin, with_challenges, without_challenges}
-use Rattle.model_lives.proofs.Lists.{filter_nothing}
-use Rattle.model_lives.proofs.Thin.{all_falling, found_thin, overdue_thin, swept_thin, whole_orders}
+use Rattle.model_lives.proofs.{Lists.filter_nothing, Thin.all_falling, Thin.found_thin, Thin.overdue_thin, Thin.swept_thin, Thin.whole_orders}
 
 -- the authorizations of these numbers have their challenges, others none
 abbrev pub those : (ℕ → Bool) → ℕ → ChallengeRow → Bool
@@ -50,33 +45,19 @@ AllWhole w m T (e ∷ es) = AreWhole w (touches_authorization e) T.authorization
 pub filter_changed : {X : Type 0} (p : X → Bool) (f : X → X) (xs : List X) → EachOf (λ x. (p (f x) ≡ p x) × (p x ≡ true → f x ≡ x)) xs →
     filter p (map f xs) ≡ filter p xs
 filter_changed p f [] h = refl
-filter_changed p f (x ∷ xs) h =
-    ap (λ b. cond b (f x ∷ filter p (map f xs)) (filter p (map f xs))) h.0.0 ∙ by (p x) refl (filter_changed p f xs h.1)
-  where
-    by : (b : Bool) → p x ≡ b → filter p (map f xs) ≡ filter p xs →
-        cond b (f x ∷ filter p (map f xs)) (filter p (map f xs)) ≡ cond b (x ∷ filter p xs) (filter p xs)
-    by true so ih = λ i. h.0.1 so i ∷ ih i
-    by false so ih = ih
+filter_changed p f (x ∷ xs) h = grind (arith, (filter_changed p f xs h.1))
 
 -- and what is found
 pub find_changed : {X : Type 0} (p : X → Bool) (f : X → X) (xs : List X) → EachOf (λ x. (p (f x) ≡ p x) × (p x ≡ true → f x ≡ x)) xs →
     find p (map f xs) ≡ find p xs
 find_changed p f [] h = refl
-find_changed p f (x ∷ xs) h = ap (λ b. cond b (Some (f x)) (find p (map f xs))) h.0.0 ∙ by (p x) refl (find_changed p f xs h.1)
-  where
-    by : (b : Bool) → p x ≡ b → find p (map f xs) ≡ find p xs → cond b (Some (f x)) (find p (map f xs)) ≡ cond b (Some x) (find p xs)
-    by true so ih = ap Some (h.0.1 so)
-    by false so ih = ih
+find_changed p f (x ∷ xs) h = grind (arith, (find_changed p f xs h.1))
 
 -- ---- one row
 
 -- a row of one of these numbers
 pub row_whole : (w : ℕ → Bool) (r : AuthorizationRow) → w r.number ≡ true → with_challenges (those w) r ≡ r
-row_whole w r h =
-    λ i. record r {
-      challenges = (ap (λ b. filter (λ (c : ChallengeRow). b) r.challenges) h ∙ filter_all (λ (c : ChallengeRow). true) r.challenges
-          (each_all _ r.challenges (λ c. refl))) i;
-    }
+row_whole w r h = grind (arith, filter_all, each_all)
 
 -- a row of none
 row_bare : (w : ℕ → Bool) (r : AuthorizationRow) → w r.number ≡ false → with_challenges (those w) r ≡ without_challenges r
@@ -87,54 +68,23 @@ pub rows_whole : (w : ℕ → Bool) (rows : List AuthorizationRow) → EachOf (�
 rows_whole w [] h = refl
 rows_whole w (r ∷ rs) h = λ i. row_whole w r h.0 i ∷ rows_whole w rs h.1 i
 
--- what touches no row in whole does not touch it without challenges
-touches_less : (e : Entry) (r : AuthorizationRow) → touches_authorization e r ≡ false → touches_authorization e (without_challenges r) ≡ false
-touches_less (authorization_ended n ending) r h = h
-touches_less (account_ended n ending) r h = h
-touches_less _ r h = refl
-
 -- so an entry touches it as the whole row, where what it touches is in whole
 pub touches_trimmed : (w : ℕ → Bool) (e : Entry) (r : AuthorizationRow) → (touches_authorization e r ≡ true → w r.number ≡ true) →
     touches_authorization e (with_challenges (those w) r) ≡ touches_authorization e r
-touches_trimmed w e r h = by (w r.number) refl (touches_authorization e r) refl
-  where
-    by : (b : Bool) → w r.number ≡ b → (t : Bool) → touches_authorization e r ≡ t →
-        touches_authorization e (with_challenges (those w) r) ≡ touches_authorization e r
-    by true is t so = ap (touches_authorization e) (row_whole w r is)
-    by false is true so = let whole : w r.number ≡ true = h so in cc
-    by false is false so = ap (touches_authorization e) (row_bare w r is) ∙ touches_less e r so ∙ sym so
+touches_trimmed w e r h = grind (arith, row_whole, row_bare)
 
 -- and moves it so
 moved_trimmed : (w : ℕ → Bool) (e : Entry) (m : ℕ) (accounts : List AccountRow) (r : AuthorizationRow) → (touches_authorization e r ≡ true → w r.number
     ≡ true) →
     moved_authorization e m accounts (with_challenges (those w) r) ≡ with_challenges (those w) (moved_authorization e m accounts r)
-moved_trimmed w e m accounts r h = by (touches_authorization e r) refl
-  where
-    by : (b : Bool) → touches_authorization e r ≡ b →
-        moved_authorization e m accounts (with_challenges (those w) r) ≡ with_challenges (those w) (moved_authorization e m accounts r)
-    by true so =
-        ap (moved_authorization e m accounts) (row_whole w r (h so))
-        ∙ sym (row_whole w (moved_authorization e m accounts r) (ap w (moved_number e m accounts r) ∙ h so))
-    by false so =
-        ap (λ t. cond t (restated_authorization m (noted_authorization e m accounts (with_challenges (those w) r))) (with_challenges (those w) r))
-        (touches_trimmed w e r h ∙ so)
-        ∙ sym (ap (λ t. with_challenges (those w) (cond t (restated_authorization m (noted_authorization e m accounts r)) r)) so)
+moved_trimmed w e m accounts r h = grind (arith, row_whole, touches_trimmed)
 
 -- ---- what decides an order
 
 -- the statuses of what it lists
 statuses_trimmed : (w : ℕ → Bool) (rows : List AuthorizationRow) (ns : List ℕ) →
     stored_statuses (map (with_challenges (those w)) rows) ns ≡ stored_statuses rows ns
-statuses_trimmed w rows [] = refl
-statuses_trimmed w rows (n ∷ ns) =
-    ap (λ o. and_status o (stored_statuses (map (with_challenges (those w)) rows) ns)) (found_thin (those w) n rows)
-    ∙ by (authorization_numbered n rows) (statuses_trimmed w rows ns)
-  where
-    by : (o : Option AuthorizationRow) → stored_statuses (map (with_challenges (those w)) rows) ns ≡ stored_statuses rows ns →
-        and_status (option_map (with_challenges (those w)) o) (stored_statuses (map (with_challenges (those w)) rows) ns)
-        ≡ and_status o (stored_statuses rows ns)
-    by None ih = ih
-    by (Some r) ih = ap (λ l. r.status ∷ l) ih
+statuses_trimmed w rows ns = grind (arith, found_thin)
 
 -- so its own
 restated_trimmed : (w : ℕ → Bool) (m : ℕ) (rows : List AuthorizationRow) (o : OrderRow) →
@@ -151,8 +101,7 @@ touched_trimmed w e rows h o =
   where
     by : (n : ℕ) (x : Option AuthorizationRow) → authorization_numbered n rows ≡ x →
         holds (touches_authorization e) (option_map (with_challenges (those w)) x) ≡ holds (touches_authorization e) x
-    by n None is = refl
-    by n (Some r) is = touches_trimmed w e r (each_found _ (λ a. a.number == n) rows r h is)
+    by k x l = grind (arith, touches_trimmed, each_found)
 
 -- ---- an entry
 

@@ -1,56 +1,40 @@
 -- A request that shows orders without what they list: a part may lack that, but for what falls.
-use Rattle.std.proofs.Common.{◌≡◌, ◌+◌, ℕ, List, [], ◌∷◌, ◌++◌, map, filter, Option, Some, None, refl, sym, ap, ◌∙◌, true, false, Bool, cond, not, Result, Ok}
-use Rattle.std.proofs.Common.{Err}
+use Rattle.std.proofs.Common.{◌≡◌, ℕ, List, [], ◌∷◌, ◌++◌, map, filter, Option, Some, None, refl, sym, ap, ◌∙◌, true, false, Bool, cond, not, Result, Ok}
+use Rattle.std.proofs.Common.{Err, arith, rules}
+use Rattle.std.proofs.lemmas.Bool.{or_left}
 use Rattle.std.specs.Prelude.{◌==◌, ◌&&◌, ◌||◌, bytes_eq, find, nat_lt}
-use Rattle.std.proofs.lemmas.Bool.{eqb-true, or_left}
-use Rattle.desk_model.specs.{Account.is_valid as is_valid_account, Decide.entries_of, Lookup.holds, Shown.reply_of, Tables.Tables, Order.ordered_by}
-use Rattle.desk_model.specs.{Asked.asks_orders, Touched.is_named_account}
-use Rattle.desk_model.specs.Change.{accounts_put, all_changes, authorizations_put, changes, moved_rows, nonces_put, order_differs, recorded_changes, spent_by}
-use Rattle.desk_model.specs.Change.{sweep_changes}
+use Rattle.desk_model.specs.Change.{all_changes, changes, moved_rows, order_differs, recorded_changes, sweep_changes}
 use Rattle.desk_model.specs.Derived.{authorization_numbered, numbers_of, restated_order}
-use Rattle.desk_model.specs.Effect.{authorizations_after, effect, effects, falls, fresh_order, is_live_order, is_overdue, lasts, noted_order, swept}
-use Rattle.desk_model.specs.Effect.{touches_order}
+use Rattle.desk_model.specs.Effect.{authorizations_after, effect, effects, falls, is_live_order, is_overdue, lasts, noted_order, swept, touches_order}
 use Rattle.desk_model.specs.Kept.{CoversSweep, EachOf, IsClosed, Kept, restricted}
-use Rattle.desk_model.specs.Questions.{account_with_key, order_on}
-use Rattle.desk_model.specs.Rules.{key_verdict, nothing, open_nonce, own, signed_verdict, target_verdict}
+use Rattle.desk_model.specs.Rules.{key_verdict, nothing, own, signed_verdict, target_verdict}
+use Rattle.desk_model.specs.declared.rows.Change.TheVariants.{PutAuthorization, PutMeta, PutOrder, RemoveNonce}
+use Rattle.desk_model.specs.declared.verdict.Verdict.TheVariants.{Refused as refused, KeyTaken as key_taken, Answers as answers}
+use Rattle.desk_model.specs.{Account.is_valid as is_valid_account, Decide.entries_of, Lookup.holds, Shown.reply_of, Tables.Tables, Asked.asks_orders}
+use Rattle.desk_model.specs.{Touched.is_named_account, Questions.account_with_key, Questions.order_on, declared.call.BadKey.BadKey, declared.call.Signed.Signed}
+use Rattle.desk_model.specs.{declared.call.Target.Target, declared.entry.Entry.Entry, declared.rows.AccountRow.AccountRow}
+use Rattle.desk_model.specs.{declared.rows.AuthorizationRow.AuthorizationRow, declared.rows.OrderRow.OrderRow, declared.verdict.Verdict.Verdict}
+use Rattle.desk_model.specs.{declared.entry.Entry.TheVariants.Issued as issued, declared.entry.Entry.TheVariants.Spent as spent}
 use Rattle.desk_model.specs.declared.call.Ask.TheVariants as ask
-use Rattle.desk_model.specs.declared.{call.BadKey.BadKey, call.Signed.Signed, call.Target.Target, entry.Entry.Entry, rows.AccountRow.AccountRow}
-use Rattle.desk_model.specs.declared.{rows.AuthorizationRow.AuthorizationRow, rows.Change.Change, rows.OrderRow.OrderRow, verdict.Verdict.Verdict}
 use Rattle.desk_model.specs.declared.call.Target.TheVariants as to
-use Rattle.desk_model.specs.declared.entry.Entry.TheVariants.{Issued as issued, Spent as spent}
 use Rattle.desk_model.specs.declared.refusal.Refusal.TheVariants as refusal
-use Rattle.desk_model.specs.declared.rows.Change.TheVariants.{PutAccount, PutAuthorization, PutMeta, PutNonce, PutOrder, RemoveNonce}
 use Rattle.desk_model.specs.declared.status.AuthzStatus.TheVariants as authz
 use Rattle.desk_model.specs.declared.status.OrderStatus.TheVariants as order
-use Rattle.desk_model.specs.declared.verdict.Verdict.TheVariants.{Refused as refused, KeyTaken as key_taken, Answers as answers}
 use Rattle.model_laws.specs.Ordered.{IsOrdered}
-use Rattle.model_laws.proofs.Basics.{each, each_all, list_any-same}
-use Rattle.model_laws.proofs.{Chain.all_changes_local, SweptParts.swept_closed}
-use Rattle.model_laws.proofs.Finds.{each_found, found_passes}
-use Rattle.model_laws.proofs.Local.{filter_part, find_kept, swept_alike}
-use Rattle.model_laws.proofs.Plain.{covers_issued, nonces_covered, nothing_touched}
-use Rattle.model_lives.proofs.Steps.{check_keeps, given_keeps}
-use Rattle.model_lives.specs.AnswersAs.{CarriesOutAs, PassesAs}
-use Rattle.model_lives.specs.MinimalPart.{target_needs_listed}
-use Rattle.model_lives.proofs.Between.{bare, bare_ordered, carries_by, open_kept, swept_bare}
-use Rattle.model_lives.proofs.Grown.{KeepsNamed, grown_closed}
-use Rattle.model_lives.proofs.Lists.{filter_same, same_number}
-use Rattle.model_lives.proofs.{Ready.swept_names, Walks.sent}
-use Rattle.model_lives.proofs.Replies.{certificate_shown, orders_shown}
-use Rattle.model_lives.proofs.Verdicts.{is_key, nonce_same, signed_same, verdict_by}
+use Rattle.model_laws.proofs.{Basics.each, Basics.each_all, Basics.list_any-same, Chain.all_changes_local, SweptParts.swept_closed, Finds.each_found}
+use Rattle.model_laws.proofs.{Finds.found_passes, Local.filter_part, Local.find_kept, Local.swept_alike, Plain.covers_issued, Plain.nonces_covered}
+use Rattle.model_laws.proofs.{Plain.nothing_touched}
+use Rattle.model_lives.proofs.{Steps.check_keeps, Steps.given_keeps, Between.bare, Between.bare_ordered, Between.carries_by, Between.open_kept}
+use Rattle.model_lives.proofs.{Between.swept_bare, Grown.KeepsNamed, Grown.grown_closed, Lists.filter_same, Lists.same_number, Ready.swept_names, Walks.sent}
+use Rattle.model_lives.proofs.{Replies.certificate_shown, Replies.orders_shown, Verdicts.is_key, Verdicts.nonce_same, Verdicts.signed_same, Verdicts.verdict_by}
+use Rattle.model_lives.specs.{AnswersAs.CarriesOutAs, AnswersAs.PassesAs, MinimalPart.target_needs_listed}
 
 -- ---- what falls
 
 -- a number that is not kept is not found in the part
 not_found : (kept : ℕ → Bool) (n : ℕ) (xs : List AuthorizationRow) → kept n ≡ false → find (λ a. a.number == n) (filter (λ a. kept a.number) xs) ≡ None
 not_found kept n [] h = refl
-not_found kept n (x ∷ xs) h = by (kept x.number) refl (x.number == n) refl (not_found kept n xs h)
-  where
-    by : (b : Bool) → kept x.number ≡ b → (c : Bool) → (x.number == n) ≡ c → find (λ a. a.number == n) (filter (λ a. kept a.number) xs) ≡ None →
-        find (λ a. a.number == n) (cond b (x ∷ filter (λ a. kept a.number) xs) (filter (λ a. kept a.number) xs)) ≡ None
-    by true e true r ih = let same : x.number ≡ n = eqb-true x.number n r in let no : kept x.number ≡ false = ap kept same ∙ h in cc
-    by true e false r ih = ap (λ z. cond z (Some x) (find (λ a. a.number == n) (filter (λ a. kept a.number) xs))) r ∙ ih
-    by false e c r ih = ih
+not_found kept n (x ∷ xs) h = grind (arith, (not_found kept n xs h))
 
 -- a row that passes a test is found in a part that keeps all that pass, and no other passes there
 found_alike : (kept : ℕ → Bool) (test : AuthorizationRow → Bool) (n : ℕ) (xs : List AuthorizationRow) →
@@ -59,12 +43,10 @@ found_alike : (kept : ℕ → Bool) (test : AuthorizationRow → Bool) (n : ℕ)
 found_alike kept test n xs h = by (kept n) refl
   where
     fails : (r : AuthorizationRow) → r.number ≡ n → kept n ≡ false → (test r ≡ true → kept r.number ≡ true) → (b : Bool) → test r ≡ b → b ≡ false
-    fails r same e f true t = let no : kept r.number ≡ false = ap kept same ∙ e in let k : kept r.number ≡ true = f t in cc
-    fails r same e f false t = refl
+    fails i j k l u g = grind arith
 
     none : kept n ≡ false → (o : Option AuthorizationRow) → authorization_numbered n xs ≡ o → holds test o ≡ false
-    none e None is = refl
-    none e (Some r) is = fails r (eqb-true r.number n (found_passes (λ a. a.number == n) xs r is)) e (each_found _ (λ a. a.number == n) xs r h is) (test r) refl
+    none v o w = grind (arith, found_passes, each_found)
 
     by : (b : Bool) → kept n ≡ b → holds test (authorization_numbered n (filter (λ a. kept a.number) xs)) ≡ holds test (authorization_numbered n xs)
     by true e = ap (holds test) (find_kept (λ (a : AuthorizationRow). a.number) kept n xs e)
@@ -108,25 +90,13 @@ no_orders touched move rows none = by rows none
         ap (λ b. map move (cond b (x ∷ filter (λ r. touched r && order_differs r (move r)) xs) (filter (λ r. touched r && order_differs r (move r)) xs))) h.0
         ∙ by xs h.1
 
--- what an entry changes, with these orders in the place of those that it moves
-abbrev changes_with : ℕ → Tables → Entry → List OrderRow → List Change
-changes_with m S e rows =
-    map RemoveNonce (spent_by e)
-    ++ (map PutNonce (nonces_put S e m)
-    ++ (map PutAccount (accounts_put S e m)
-    ++ (map PutAuthorization (authorizations_put S e m)
-    ++ map PutOrder (rows ++ map (λ o. restated_order m (authorizations_after S e m) (fresh_order o))
-    (ordered_by e m S.meta.policy (S.meta.counters.authorizations + 1) (S.meta.counters.orders + 1))))))
-
 -- an order that the entry touches differs after it
 abbrev pub moves_order : ℕ → Tables → Entry → OrderRow → Bool
 moves_order m S e o = touches_order e S.authorizations o && order_differs o (restated_order m (authorizations_after S e m) (noted_order e m o))
 
 -- an entry that moves no order changes the same without the orders
 pub bare_changes : (m : ℕ) (S : Tables) (e : Entry) → EachOf (λ o. moves_order m S e o ≡ false) S.orders → changes m S e ≡ changes m (bare S) e
-bare_changes m S e none =
-    ap (changes_with m S e)
-    (no_orders (touches_order e S.authorizations) (λ o. restated_order m (authorizations_after S e m) (noted_order e m o)) S.orders none)
+bare_changes m S e none = grind (arith, no_orders)
 
 pub issued_bare : (m : ℕ) (S : Tables) (r : List ℕ) → all_changes m S (issued r ∷ []) ≡ all_changes m (bare S) (issued r ∷ [])
 issued_bare m S r = ap (λ cs. cs ++ []) (bare_changes m S (issued r) (each_all _ S.orders (λ o.
@@ -217,26 +187,12 @@ signed_shown k S r s e named = by s.key (λ x h. or_left _ _ h)
 -- ---- the request
 
 carried_open : (k : Kept) (T : Tables) (m : ℕ) (v : Verdict) → IsOrdered T → CoversSweep k T m → IsShown k (swept m T) v → CarriesOutAs m T (restricted k T) v
-carried_open k T m (refused why ss) h covers shown = carries_by k T m (refused why ss) h tt (λ index. refl)
-carried_open k T m (key_taken account) h covers shown = carries_by k T m (key_taken account) h tt (λ index. refl)
-carried_open k T m (answers what) h covers shown = carries_by k T m (answers what) h tt (λ index. ap (λ P. reply_of P what) (swept_open k T m covers) ∙ shown)
-carried_open k T m _ h covers shown = absurd shown
+carried_open k T m v h l g = grind (arith, carries_by, swept_open)
 
 records_open : (k : Kept) (T : Tables) (m : ℕ) (v : Verdict) → IsOrdered T → CoversSweep k T m → IsShown k (swept m T) v → (n : ℕ) (fresh : List ℕ) →
     recorded_changes m (restricted k T) (spent n ∷ issued fresh ∷ entries_of v) ≡ recorded_changes m T (spent n ∷ issued fresh ∷ entries_of v)
-records_open k T m (refused why ss) h covers shown n fresh = nonces_open k T m n fresh h covers
-records_open k T m (key_taken account) h covers shown n fresh = nonces_open k T m n fresh h covers
-records_open k T m (answers what) h covers shown n fresh = nonces_open k T m n fresh h covers
-records_open k T m _ h covers shown n fresh = absurd shown
+records_open k T m v h l g n fresh = grind (arith, nonces_open)
 
 pub passes_open : (k : Kept) (T : Tables) (m : ℕ) (s : Signed) → IsOrdered T → target_needs_listed s.target ≡ false → CoversSweep k T m →
     KeepsNamed k T (ask.Signed s) → PassesAs m s T (restricted k T)
-passes_open k T m s h e covers kept =
-    let named : KeepsNamed k (swept m T) (ask.Signed s) = swept_names k T m (ask.Signed s) kept in
-    record {
-      nonce = ap (λ P. open_nonce P s.nonce) (swept_open k T m covers) ∙ nonce_same k (swept m T) s named.nonce;
-      issues = record { records = λ r. issued_open k T m r h covers };
-      judged = λ r. ap (λ P. signed_verdict P r s) (swept_open k T m covers) ∙ signed_same k (swept m T) r s named;
-      verdict = λ r. carried_open k T m (signed_verdict (swept m T) r s) h covers (signed_shown k (swept m T) r s e named);
-      records = λ r n fresh. records_open k T m (signed_verdict (swept m T) r s) h covers (signed_shown k (swept m T) r s e named) n fresh;
-    }
+passes_open k T m s h e covers kept = search (rules, swept_names, swept_open, nonce_same, issued_open, signed_same, carried_open, signed_shown, records_open)

@@ -1,32 +1,22 @@
 -- A part that keeps what a request names gives the same verdict.
-use Rattle.std.proofs.Common.{◌≡◌, ℕ, List, [], Option, Some, None, refl, ap, ◌∙◌, true, false, Bool, Result, Ok, Err}
+use Rattle.std.proofs.Common.{◌≡◌, ℕ, List, [], Option, Some, None, refl, ap, true, false, Bool, Result, Ok, Err, arith}
 use Rattle.std.specs.Prelude.{◌==◌, ◌&&◌, bytes_eq, option_and_then}
-use Rattle.std.proofs.lemmas.Bool.{or_left}
 use Rattle.desk_model.specs.declared.refusal.Refusal.TheVariants as refusal
-use Rattle.desk_model.specs.{Account.is_valid as is_valid_account, Document.account_url, Effect.has_row, Lookup.holds, Tables.Tables}
-use Rattle.desk_model.specs.Payload.{key_change, new_order}
-use Rattle.desk_model.specs.declared.{payload.KeyChange.KeyChange, payload.Identifier.Identifier, verdict.Verdict.Verdict, call.OfficeAsk.OfficeAsk}
-use Rattle.desk_model.specs.declared.{call.BadKey.BadKey, call.Finding.Finding, call.Signed.Signed, call.Target.Target, objects.Nonce.Nonce}
-use Rattle.desk_model.specs.declared.{rows.AccountRow.AccountRow, rows.AuthorizationRow.AuthorizationRow, rows.OrderRow.OrderRow}
-use Rattle.desk_model.specs.Questions.{account_on, account_with_key, authorization_on, order_on, owner_on, challenge_of}
-use Rattle.desk_model.specs.Rules.{certify_verdict, fail_verdict}
-use Rattle.desk_model.specs.Rules.{finding_verdict, if_spelled, key_verdict, office_verdict, open_nonce, open_nonce_in, report_verdict}
-use Rattle.desk_model.specs.Rules.{revoke_account, revoke_authorization, signed_verdict, key_change_verdict, rekey_verdict, target_verdict, names_asked}
-use Rattle.desk_model.specs.Rules.{new_order_verdict}
-use Rattle.desk_model.specs.Tokens.{NonceText, nonce_in}
-use Rattle.desk_model.specs.Kept.{EachOf, Kept, restricted}
-use Rattle.desk_model.specs.Verdict.{check, given}
-use Rattle.desk_model.specs.declared.verdict.Verdict.TheVariants.{Answers as answers, Refused as refused}
+use Rattle.desk_model.specs.Questions.{account_on, account_with_key, authorization_on, order_on, owner_on}
+use Rattle.desk_model.specs.Rules.{if_spelled, key_verdict, office_verdict, open_nonce, open_nonce_in, report_verdict, signed_verdict, key_change_verdict}
+use Rattle.desk_model.specs.Rules.{rekey_verdict, target_verdict, names_asked, new_order_verdict}
+use Rattle.desk_model.specs.Asked.{carries, target_new_key, target_order, target_authorization, target_owner, target_names}
+use Rattle.desk_model.specs.{Document.account_url, Effect.has_row, Lookup.holds, Tables.Tables, Payload.key_change, Payload.new_order}
+use Rattle.desk_model.specs.{declared.payload.KeyChange.KeyChange, declared.payload.Identifier.Identifier, declared.verdict.Verdict.Verdict}
+use Rattle.desk_model.specs.{declared.call.OfficeAsk.OfficeAsk, declared.call.BadKey.BadKey, declared.call.Finding.Finding, declared.call.Signed.Signed}
+use Rattle.desk_model.specs.{declared.call.Target.Target, declared.objects.Nonce.Nonce, declared.rows.AccountRow.AccountRow}
+use Rattle.desk_model.specs.{declared.rows.AuthorizationRow.AuthorizationRow, declared.rows.OrderRow.OrderRow, Tokens.NonceText, Tokens.nonce_in, Kept.EachOf}
+use Rattle.desk_model.specs.{Kept.Kept, Kept.restricted, Verdict.check, Verdict.given, declared.verdict.Verdict.TheVariants.Refused as refused}
 use Rattle.desk_model.specs.declared.call.Ask.TheVariants as ask
 use Rattle.desk_model.specs.declared.call.OfficeAsk.TheVariants as office
 use Rattle.desk_model.specs.declared.call.Target.TheVariants as to
-use Rattle.desk_model.specs.declared.verdict.Shows.TheVariants as show
-use Rattle.model_laws.proofs.Local.{find_kept, find_part}
-use Rattle.model_laws.proofs.Finds.{each_found, found_passes}
-use Rattle.desk_model.specs.Asked.{carries, target_new_key, target_order, target_authorization, target_owner, target_names}
-use Rattle.model_lives.proofs.{Grown.KeepsNamed, Lists.same_number, Steps.own_same}
-use Rattle.model_lives.proofs.Reusing.{KeepsAsked, new_order_same}
-use Rattle.model_laws.proofs.Basics.{each}
+use Rattle.model_laws.proofs.{Local.find_kept, Local.find_part, Finds.each_found, Finds.found_passes, Basics.each}
+use Rattle.model_lives.proofs.{Grown.KeepsNamed, Lists.same_number, Steps.own_same, Reusing.KeepsAsked, Reusing.new_order_same}
 
 -- ---- look-ups
 
@@ -85,8 +75,7 @@ asked_same : (k : Kept) (S : Tables) (r : List ℕ) (n : ℕ) (asked : Option (L
     KeepsAsked k S.authorizations n (option_and_then names_asked asked) →
     given asked refusal.Malformed (new_order_verdict (restricted k S) r n) ≡ given asked refusal.Malformed (new_order_verdict S r n)
 unfolding given
-asked_same k S r n None h = refl
-asked_same k S r n (Some ids) h = new_order_same k S r n ids h
+asked_same k S r n asked h = grind (arith, new_order_same)
 
 target_same : (k : Kept) (S : Tables) (r : List ℕ) (n : ℕ) (p : List ℕ) (t : Target) → k.accounts n ≡ true →
     EachOf (λ x. target_new_key t p x.key ≡ true → k.accounts x.number ≡ true) S.accounts →
@@ -112,15 +101,7 @@ keyed_same : (k : Kept) (S : Tables) (r key p : List ℕ) (t : Target) →
     EachOf (λ a. target_owner t a ≡ true → k.authorizations a.number ≡ true) S.authorizations →
     EachOf (λ x. bytes_eq x.key key ≡ true → KeepsAsked k S.authorizations x.number (target_names t p)) S.accounts →
     key_verdict (restricted k S) r key p t (account_with_key (restricted k S) key) ≡ key_verdict S r key p t (account_with_key S key)
-keyed_same k S r key p t h f o a c w = ap (key_verdict (restricted k S) r key p t) (key_same k S key h) ∙ by (account_with_key S key) refl
-  where
-    by : (x : Option AccountRow) → account_with_key S key ≡ x → key_verdict (restricted k S) r key p t x ≡ key_verdict S r key p t x
-    by None is = refl
-    by (Some y) is =
-        let passes : bytes_eq y.key key ≡ true = found_passes (λ x. bytes_eq x.key key) S.accounts y is in
-        ap (check (is_valid_account y.status) refusal.Unauthorized)
-        (target_same k S r y.number p t (each_found _ (λ x. bytes_eq x.key key) S.accounts y h is passes) f o a c
-        (each_found _ (λ x. bytes_eq x.key key) S.accounts y w is passes))
+keyed_same k S r key p t h f o a c w = grind (arith, key_same, found_passes, target_same, each_found)
 
 -- the verdict by the request's key
 abbrev pub verdict_by : Tables → List ℕ → Signed → Result (List ℕ) BadKey → Verdict
@@ -130,28 +111,13 @@ abbrev pub is_key : Result (List ℕ) BadKey → List ℕ → Bool
 is_key key text = elim key [ Err e ↦ false | Ok mine ↦ bytes_eq text mine ]
 
 pub signed_same : (k : Kept) (S : Tables) (r : List ℕ) (s : Signed) → KeepsNamed k S (ask.Signed s) → signed_verdict (restricted k S) r s ≡ signed_verdict S r s
-signed_same k S r s h = by s.key h.key (each _ _ S.accounts (λ x f yes. f (or_left _ _ yes)) h.asked)
-  where
-    by : (key : Result (List ℕ) BadKey) → EachOf (λ x. is_key key x.key ≡ true → k.accounts x.number ≡ true) S.accounts →
-        EachOf (λ x. is_key key x.key ≡ true → KeepsAsked k S.authorizations x.number (target_names s.target s.payload)) S.accounts →
-        verdict_by (restricted k S) r s key ≡ verdict_by S r s key
-    by (Err e) f w = refl
-    by (Ok key) f w = keyed_same k S r key s.payload s.target f h.new_key h.order h.authorization h.owner w
+signed_same k S r s h = grind (arith, each, keyed_same)
 
 -- ---- the other asks
 
 pub report_same : (k : Kept) (S : Tables) (n : ℕ) (finding : Finding) → KeepsNamed k S (ask.Office (office.Report n finding)) →
     report_verdict (restricted k S) n finding ≡ report_verdict S n finding
-report_same k S n finding h =
-    ap (λ x. given x refusal.NotFound (λ a. given (challenge_of n a) refusal.NotFound (finding_verdict n finding a))) (owner_same k S n h.owner)
+report_same k S n finding h = grind (arith, owner_same)
 
 pub office_same : (k : Kept) (S : Tables) (a : OfficeAsk) → KeepsNamed k S (ask.Office a) → office_verdict (restricted k S) a ≡ office_verdict S a
-office_same k S (office.Report n finding) h = report_same k S n finding h
-office_same k S (office.Certify n bytes) h = ap (λ x. given x refusal.NotFound (certify_verdict n bytes)) (order_same k S n (h.order n (same_number n)))
-office_same k S (office.FailOrder n problem) h = ap (λ x. given x refusal.NotFound (fail_verdict n problem)) (order_same k S n (h.order n (same_number n)))
-office_same k S (office.RevokeAuthz n) h =
-    ap (λ x. given x refusal.NotFound (revoke_authorization n)) (authorization_same k S n (h.authorization n (same_number n)))
-office_same k S (office.RevokeAccount n) h = ap (λ x. given x refusal.NotFound (revoke_account n)) (account_same k S n (h.account n (same_number n)))
-office_same k S (office.KeyOf n) h = ap (λ x. given x refusal.NotFound (λ (y : AccountRow). answers (show.Key n)))
-    (account_same k S n (h.account n (same_number n)))
-office_same k S _ h = refl
+office_same k S a h = grind (arith, report_same, order_same, authorization_same, account_same)

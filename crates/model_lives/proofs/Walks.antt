@@ -1,56 +1,46 @@
 -- Each verdict: what it records is kept, and what it shows is shown by the part as by the whole.
 use Rattle.std.proofs.Common.{◌≡◌, ℕ, ◌+◌, List, [], ◌∷◌, length, Option, Some, None, refl, ap, subst, ◌∙◌, true, false, Bool, not, arith, Result, Ok, Err}
-use Rattle.std.specs.Prelude.{◌==◌, ◌&&◌, cond, nat_le, bytes_eq, option_and_then}
-use Rattle.std.specs.List.{list_any}
-use Rattle.std.proofs.lemmas.Bool.{and_from, eqb-true, or_left, or_right}
-use Rattle.desk_model.specs.Authorization.{is_live, is_pending}
-use Rattle.desk_model.specs.declared.refusal.Refusal.TheVariants as refusal
-use Rattle.desk_model.specs.{Account.is_valid as is_valid_account, Contact.contacts_fault, Derived.numbers_of, Lookup.holds, Name.Name, Tables.Tables}
-use Rattle.desk_model.specs.Document.{account_url, expected}
+use Rattle.std.proofs.lemmas.Bool.{eqb-true, or_left}
+use Rattle.std.proofs.Common.{rules}
+use Rattle.std.specs.{Prelude.◌==◌, Prelude.◌&&◌, Prelude.cond, Prelude.nat_le, Prelude.bytes_eq, Prelude.option_and_then, List.list_any}
 use Rattle.desk_model.specs.Effect.{effect, has_row, lists_one, swept}
-use Rattle.desk_model.specs.declared.{call.OrderProblem.OrderProblem, entry.Ending.Ending, entry.Outcome.Outcome, entry.Wanted.Wanted, call.Ask.Ask}
-use Rattle.desk_model.specs.declared.{call.OfficeAsk.OfficeAsk, call.BadKey.BadKey, call.Finding.Finding, call.Signed.Signed, call.Target.Target}
-use Rattle.desk_model.specs.declared.{entry.Entry.Entry, payload.AccountChange.AccountChange, payload.AuthorizationChange.AuthorizationChange}
-use Rattle.desk_model.specs.declared.{payload.ChallengeChange.ChallengeChange, payload.Identifier.Identifier, payload.NewAccount.NewAccount}
-use Rattle.desk_model.specs.declared.{reply.Subproblem.Subproblem, rows.AccountRow.AccountRow, rows.AuthorizationRow.AuthorizationRow, rows.OrderRow.OrderRow}
-use Rattle.desk_model.specs.declared.entry.Ending.TheVariants.{Deactivated as deactivated, Revoked as revoked}
 use Rattle.desk_model.specs.Legal.{has_length, is_pending_challenge, is_problem, is_processing_challenge}
-use Rattle.desk_model.specs.Limits.{longest_certificate, most_names}
-use Rattle.desk_model.specs.Order.{is_processing, is_ready}
 use Rattle.desk_model.specs.Payload.{account_change, authorization_change, challenge_change, finalize, key_change, new_account, new_order}
 use Rattle.desk_model.specs.Questions.{account_on, account_with_key, authorization_on, challenge_of, order_on, owner_on}
 use Rattle.desk_model.specs.Rules.{account_verdict, authorization_verdict, certify_verdict, challenge_verdict, csr_in, fail_verdict, finalize_verdict}
 use Rattle.desk_model.specs.Rules.{is_revoked, is_revoked_status, key_verdict, nothing, office_verdict, open_account, order_of, outcome_of, own, has_this_key}
 use Rattle.desk_model.specs.Rules.{rekey_verdict, report_verdict, revoke_account, revoke_authorization, same_outcome, same_problem, signed_verdict, stands_open}
 use Rattle.desk_model.specs.Rules.{subproblems, target_verdict, wanted, kept, names_in, names_asked, names_of}
-use Rattle.desk_model.specs.Kept.{Covers, EachOf, IsClosed, Kept}
-use Rattle.desk_model.specs.declared.call.Ask.TheVariants as ask
-use Rattle.desk_model.specs.declared.call.OfficeAsk.TheVariants as office
-use Rattle.desk_model.specs.declared.call.Target.TheVariants as to
+use Rattle.desk_model.specs.Asked.{asks_authorizations, asks_orders, names_account, names_authorization, names_order, names_owner, target_names}
+use Rattle.desk_model.specs.{Authorization.is_live, Authorization.is_pending, Account.is_valid as is_valid_account, Contact.contacts_fault, Derived.numbers_of}
+use Rattle.desk_model.specs.{Lookup.holds, Name.Name, Tables.Tables, Document.account_url, Document.expected, Limits.longest_certificate, Limits.most_names}
+use Rattle.desk_model.specs.{Order.is_processing, Order.is_ready, Kept.Covers, Kept.EachOf, Kept.Kept, Touched.is_named_account, Touched.is_own_authorization}
 use Rattle.desk_model.specs.declared.entry.Entry.TheVariants.{Opened as opened, ContactsChanged as contacts_changed, KeyChanged as key_changed}
 use Rattle.desk_model.specs.declared.entry.Entry.TheVariants.{AccountEnded as account_ended, Ordered as ordered, Answered as answered, Reported as reported}
 use Rattle.desk_model.specs.declared.entry.Entry.TheVariants.{AuthorizationEnded as authorization_ended, Finalized as finalized, Certified as certified}
 use Rattle.desk_model.specs.declared.entry.Entry.TheVariants.{Failed as failed}
+use Rattle.desk_model.specs.declared.{call.OrderProblem.OrderProblem, entry.Ending.Ending, entry.Outcome.Outcome, entry.Wanted.Wanted, call.Ask.Ask}
+use Rattle.desk_model.specs.declared.{call.OfficeAsk.OfficeAsk, call.BadKey.BadKey, call.Finding.Finding, call.Signed.Signed, call.Target.Target}
+use Rattle.desk_model.specs.declared.{entry.Entry.Entry, payload.AccountChange.AccountChange, payload.AuthorizationChange.AuthorizationChange}
+use Rattle.desk_model.specs.declared.{payload.ChallengeChange.ChallengeChange, payload.Identifier.Identifier, payload.NewAccount.NewAccount}
+use Rattle.desk_model.specs.declared.{reply.Subproblem.Subproblem, rows.AccountRow.AccountRow, rows.AuthorizationRow.AuthorizationRow, rows.OrderRow.OrderRow}
+use Rattle.desk_model.specs.declared.{entry.Ending.TheVariants.Deactivated as deactivated, entry.Ending.TheVariants.Revoked as revoked}
+use Rattle.desk_model.specs.declared.refusal.Refusal.TheVariants as refusal
+use Rattle.desk_model.specs.declared.call.Ask.TheVariants as ask
+use Rattle.desk_model.specs.declared.call.OfficeAsk.TheVariants as office
+use Rattle.desk_model.specs.declared.call.Target.TheVariants as to
 use Rattle.desk_model.specs.declared.payload.AccountChange.TheVariants as change
 use Rattle.desk_model.specs.declared.payload.AuthorizationChange.TheVariants as authz_change
 use Rattle.desk_model.specs.declared.payload.ChallengeChange.TheVariants as chall_change
-use Rattle.model_laws.proofs.Basics.{each, each_all}
-use Rattle.model_laws.proofs.SweptParts.{swept_closed}
-use Rattle.desk_model.specs.Asked.{asks_authorizations, asks_orders, names_account, names_authorization, names_order, names_owner, target_names}
-use Rattle.desk_model.specs.Touched.{is_named_account, is_named_authorization, is_own_authorization}
+use Rattle.model_laws.proofs.{Basics.each, Basics.each_all, SweptParts.swept_closed, Plain.fresh_kept, Plain.nothing_touched, Finds.each_found}
+use Rattle.model_laws.proofs.{Finds.found_passes}
 use Rattle.model_lives.specs.MinimalPart.{is_end, changes_statuses}
-use Rattle.model_lives.proofs.Steps.{check_keeps, either_keeps, given_keeps, no_fault_keeps}
-use Rattle.model_lives.proofs.Listed.{KeepsListed}
-use Rattle.model_lives.proofs.Grown.{IsNamedBy, answers_challenge}
-use Rattle.model_lives.proofs.Lists.{each_member, same_number, turned}
-use Rattle.model_laws.proofs.Plain.{fresh_kept, nothing_touched}
-use Rattle.model_laws.specs.Parts.{ReusedKept}
-use Rattle.model_lives.proofs.Reusing.{KeepsAsked, wanted_kept}
-use Rattle.model_laws.proofs.Finds.{each_found, found_passes}
-use Rattle.model_lives.proofs.Ready.{IsAnswered, IsReady, covered, swept_names}
-use Rattle.model_lives.proofs.Verdicts.{is_key, verdict_by}
 use Rattle.model_lives.proofs.Replies.{account_shown, authorization_shown, certificate_shown, challenge_shown, client_challenge_shown, finalized_shown}
 use Rattle.model_lives.proofs.Replies.{key_shown, known_shown, listed_after, made_shown, opened_shown, order_shown, orders_shown, owner_after}
+use Rattle.model_lives.proofs.{Steps.check_keeps, Steps.either_keeps, Steps.given_keeps, Steps.no_fault_keeps, Listed.KeepsListed, Grown.IsNamedBy}
+use Rattle.model_lives.proofs.{Grown.answers_challenge, Lists.each_member, Lists.same_number, Lists.turned, Reusing.KeepsAsked, Reusing.wanted_kept}
+use Rattle.model_lives.proofs.{Ready.IsAnswered, Ready.IsReady, Ready.covered, Ready.swept_names, Verdicts.is_key, Verdicts.verdict_by}
+use Rattle.model_laws.specs.Parts.{ReusedKept}
 
 -- ---- what entries touch
 
@@ -61,87 +51,46 @@ ordered_named : (T : Tables) (a : Ask) (n : ℕ) (ws : List _) → IsNamedBy T a
 ordered_named T a n ws = record { account = λ x h. cc; authorization = λ r h. cc; restated = λ r h. cc; order = λ j h. cc }
 
 contacts_named : (T : Tables) (a : Ask) (n : ℕ) (contacts : List (List ℕ)) → names_account a n ≡ true → IsNamedBy T a (contacts_changed n contacts)
-contacts_named T a n contacts named =
-    record {
-      account = λ x h. or_right _ _ (or_right _ _ (subst (λ j. names_account a j ≡ true) (eqb-true n x.number h) named));
-      authorization = λ r h. cc;
-      restated = λ r h. cc;
-      order = λ j h. cc;
-    }
+contacts_named T a n contacts named = grind arith
 
 -- an account that is there, with its authorizations
 ended_named : (T : Tables) (a : Ask) (n : ℕ) (ending : Ending) → names_account a n ≡ true → changes_statuses a ≡ true →
     ((r : AuthorizationRow) → (n == r.account) ≡ true → is_own_authorization T a r ≡ true) → IsNamedBy T a (account_ended n ending)
-ended_named T a n ending named ends owned =
-    record {
-      account = λ x h. or_right _ _ (or_right _ _ (subst (λ j. names_account a j ≡ true) (eqb-true n x.number h) named));
-      authorization = λ r h. or_right (is_named_authorization a r) _ (and_from _ _ ends (owned r h));
-      restated = λ r h. or_left _ _ ends;
-      order = λ j h. cc;
-    }
+ended_named T a n ending named ends owned = grind arith
 
 authorization_named : (T : Tables) (a : Ask) (n : ℕ) (ending : Ending) → names_authorization a n ≡ true → changes_statuses a ≡ true →
     IsNamedBy T a (authorization_ended n ending)
-authorization_named T a n ending named ends =
-    record {
-      account = λ x h. cc;
-      authorization = λ r h. or_left _ _ (or_left _ _ (subst (λ j. names_authorization a j ≡ true) (eqb-true n r.number h) named));
-      restated = λ r h. or_left _ _ ends;
-      order = λ j h. cc;
-    }
+authorization_named T a n ending named ends = grind arith
 
 answered_named : (T : Tables) (a : Ask) (n : ℕ) → ((r : AuthorizationRow) → has_row n r ≡ true → names_owner a r ≡ true) → answers_challenge a ≡ true →
     IsNamedBy T a (answered n)
-answered_named T a n named moves =
-    record {
-      account = λ x h. cc;
-      authorization = λ r h. or_left _ _ (or_right (names_authorization a r.number) _ (named r h));
-      restated = λ r h. or_right (changes_statuses a) _ moves;
-      order = λ j h. cc;
-    }
+answered_named T a n named moves = grind arith
 
 reported_named : (T : Tables) (a : Ask) (n : ℕ) (o : Outcome) → ((r : AuthorizationRow) → has_row n r ≡ true → names_owner a r ≡ true) → changes_statuses a ≡ true →
     IsNamedBy T a (reported n o)
-reported_named T a n o named moves =
-    record {
-      account = λ x h. cc;
-      authorization = λ r h. or_left _ _ (or_right (names_authorization a r.number) _ (named r h));
-      restated = λ r h. or_left _ _ moves;
-      order = λ j h. cc;
-    }
+reported_named T a n o named moves = grind arith
 
 finalized_named : (T : Tables) (a : Ask) (n : ℕ) (csr : List ℕ) → names_order a n ≡ true → IsNamedBy T a (finalized n csr)
-finalized_named T a n csr named =
-    record { account = λ x h. cc; authorization = λ r h. cc; restated = λ r h. cc; order = λ j h. subst (λ i. names_order a i ≡ true) (eqb-true n j h) named }
+finalized_named T a n csr named = grind arith
 
 certified_named : (T : Tables) (a : Ask) (n : ℕ) (bytes : List ℕ) → names_order a n ≡ true → IsNamedBy T a (certified n bytes)
-certified_named T a n bytes named =
-    record { account = λ x h. cc; authorization = λ r h. cc; restated = λ r h. cc; order = λ j h. subst (λ i. names_order a i ≡ true) (eqb-true n j h) named }
+certified_named T a n bytes named = grind arith
 
 failed_named : (T : Tables) (a : Ask) (n : ℕ) (problem : OrderProblem) → names_order a n ≡ true → IsNamedBy T a (failed n problem)
-failed_named T a n problem named =
-    record { account = λ x h. cc; authorization = λ r h. cc; restated = λ r h. cc; order = λ j h. subst (λ i. names_order a i ≡ true) (eqb-true n j h) named }
+failed_named T a n problem named = grind arith
 
 -- a payload that changes something is not empty
 authorization_moves : (p : List ℕ) → authorization_change p ≡ Some authz_change.Deactivate → not (nothing p) ≡ true
-authorization_moves [] h = cc
-authorization_moves (b ∷ bs) h = refl
+authorization_moves p h = grind arith
 
 challenge_moves : (p : List ℕ) → challenge_change p ≡ Some chall_change.Answer → not (nothing p) ≡ true
-challenge_moves [] h = cc
-challenge_moves (b ∷ bs) h = refl
+challenge_moves p h = grind arith
 
 -- ---- parts of what is ready
 
--- closed at the moment, and with what each order lists
-abbrev Closed : Kept → ℕ → Tables → Type 0
-Closed k m T = IsClosed k (swept m T)
-
 -- an order after an entry
 listed_then : (k : Kept) (T : Tables) (m : ℕ) (a : Ask) (e : Entry) → IsReady k T m a → ReusedKept k e → KeepsListed k (effect m (swept m T) e)
-listed_then k T m a e ready again =
-    let closed : IsClosed k (swept m T) = swept_closed k T m ready.closed in
-    listed_after k (swept m T) m e closed (fresh_kept k (swept m T) m e closed again)
+listed_then k T m a e ready again = search (rules, swept_closed, listed_after, fresh_kept)
 
 -- ---- the other asks
 
@@ -149,8 +98,7 @@ listed_then k T m a e ready again =
 owned_by : (T : Tables) (a : Ask) (x : AccountRow) → asks_authorizations a ≡ true → is_named_account a x ≡ true →
     ((p : AccountRow → Bool) → p x ≡ true → list_any p T.accounts ≡ true) → (r : AuthorizationRow) → (x.number == r.account) ≡ true
     → is_own_authorization T a r ≡ true
-owned_by T a x asked named member r h =
-    and_from _ _ asked (member (λ y. is_named_account a y && (r.account == y.number)) (and_from _ _ named (turned x.number r.account h)))
+owned_by T a x asked named member r h = grind arith
 
 report_answered : (k : Kept) (T : Tables) (m : ℕ) (n : ℕ) (finding : Finding) → IsReady k T m (ask.Office (office.Report n finding)) →
     IsAnswered k m (swept m T) (report_verdict (swept m T) n finding)

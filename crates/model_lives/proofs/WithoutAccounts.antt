@@ -1,25 +1,22 @@
 -- What the validator and the operator do to an authorization reads no account.
-use Rattle.std.proofs.Common.{◌≡◌, ◌≤◌, ◌+◌, ℕ, List, [], ◌∷◌, ◌++◌, map, refl, sym, ap, subst, ◌∙◌, Bool}
+use Rattle.std.proofs.Common.{◌≡◌, ◌≤◌, ◌+◌, ℕ, List, [], ◌∷◌, ◌++◌, map, refl, sym, ap, subst, ◌∙◌, Bool, arith}
 use Rattle.std.specs.Prelude.{◌&&◌}
-use Rattle.desk_model.specs.{Account.opened_by, Document.expected, Kept.EachOf, Legal.is_processing_challenge, Lookup.holds, Tables.Tables}
-use Rattle.desk_model.specs.Authorization.{is_live, is_pending}
 use Rattle.desk_model.specs.Change.{authorizations_put, changes, nonces_put, orders_put, recorded_changes, spent_by, sweep_changes}
-use Rattle.desk_model.specs.Decide.{entries_of, verdict_reply}
-use Rattle.desk_model.specs.Effect.{effects, fresh_account, noted_account, swept}
-use Rattle.desk_model.specs.Questions.{authorization_on, challenge_of, owner_on}
-use Rattle.desk_model.specs.Rules.{is_revoked_status, office_verdict, outcome_of, same_outcome}
+use Rattle.desk_model.specs.{Account.opened_by, Document.expected, Kept.EachOf, Legal.is_processing_challenge, Lookup.holds, Tables.Tables}
+use Rattle.desk_model.specs.{Authorization.is_live, Authorization.is_pending, Decide.entries_of, Decide.verdict_reply, Effect.effects, Effect.fresh_account}
+use Rattle.desk_model.specs.{Effect.noted_account, Effect.swept, Questions.authorization_on, Questions.challenge_of, Questions.owner_on}
+use Rattle.desk_model.specs.{Rules.is_revoked_status, Rules.office_verdict, Rules.outcome_of, Rules.same_outcome}
+use Rattle.desk_model.specs.declared.rows.Change.TheVariants.{PutAccount, PutAuthorization, PutMeta, PutNonce, PutOrder, RemoveNonce}
 use Rattle.desk_model.specs.declared.{call.OfficeAsk.OfficeAsk, entry.Ending.Ending, entry.Entry.Entry, entry.Outcome.Outcome, rows.AccountRow.AccountRow}
-use Rattle.desk_model.specs.declared.{rows.Change.Change, verdict.Verdict.Verdict}
+use Rattle.desk_model.specs.declared.{rows.Change.Change, verdict.Verdict.Verdict, entry.Entry.TheVariants.AuthorizationEnded as authorization_ended}
+use Rattle.desk_model.specs.declared.{entry.Entry.TheVariants.Reported as reported, verdict.Verdict.TheVariants.Answers as answers}
+use Rattle.desk_model.specs.declared.{verdict.Verdict.TheVariants.Moves as moves, verdict.Verdict.TheVariants.Refused as refused}
 use Rattle.desk_model.specs.declared.call.OfficeAsk.TheVariants as office
-use Rattle.desk_model.specs.declared.entry.Entry.TheVariants.{AuthorizationEnded as authorization_ended, Reported as reported}
 use Rattle.desk_model.specs.declared.entry.Move.TheVariants as move
 use Rattle.desk_model.specs.declared.refusal.Refusal.TheVariants as refusal
-use Rattle.desk_model.specs.declared.rows.Change.TheVariants.{PutAccount, PutAuthorization, PutMeta, PutNonce, PutOrder, RemoveNonce}
 use Rattle.desk_model.specs.declared.verdict.Shows.TheVariants as show
-use Rattle.desk_model.specs.declared.verdict.Verdict.TheVariants.{Answers as answers, Moves as moves, Refused as refused}
 use Rattle.model_lives.specs.AnswersAs.{SettlesAs}
-use Rattle.model_lives.proofs.Lists.{filter_nothing}
-use Rattle.model_lives.proofs.Steps.{check_keeps, either_keeps, given_keeps}
+use Rattle.model_lives.proofs.{Lists.filter_nothing, Steps.check_keeps, Steps.either_keeps, Steps.given_keeps}
 
 -- rows without accounts
 abbrev pub without_accounts : Tables → Tables
@@ -54,9 +51,7 @@ office_without_accounts S (office.RevokeAuthz n) of =
 office_without_accounts S _ of = absurd of
 
 same_verdict : (S : Tables) (a : OfficeAsk) → IsOfAuthorization a → office_verdict (without_accounts S) a ≡ office_verdict S a
-same_verdict S (office.Report n finding) of = refl
-same_verdict S (office.RevokeAuthz n) of = refl
-same_verdict S _ of = absurd of
+same_verdict S a h = grind arith
 
 -- what it makes of the rows
 effects_without_accounts : (m : ℕ) (S : Tables) (v : Verdict) → NeedsNoAccount v → effects m (without_accounts S) (entries_of v)
@@ -69,12 +64,7 @@ effects_without_accounts m S _ is = absurd is
 
 -- what it shows
 shows_without_accounts : (index : Bool) (E : Tables) (v : Verdict) → NeedsNoAccount v → verdict_reply index (without_accounts E) v ≡ verdict_reply index E v
-shows_without_accounts index E (refused why ss) is = refl
-shows_without_accounts index E (answers (show.Challenge n)) is = refl
-shows_without_accounts index E (answers (show.Authorization n)) is = refl
-shows_without_accounts index E (moves (move.Reported n outcome)) is = refl
-shows_without_accounts index E (moves (move.AuthorizationEnded n ending)) is = refl
-shows_without_accounts index E _ is = absurd is
+shows_without_accounts index E v h = grind arith
 
 -- what an entry changes, with these accounts in the place of those that it moves
 abbrev changes_with : ℕ → Tables → Entry → List AccountRow → List Change

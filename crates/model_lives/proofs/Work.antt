@@ -1,44 +1,31 @@
 -- The lists of work are answered from the rows that they list and those that decide their statuses.
-use Rattle.std.proofs.Common.{◌≡◌, ℕ, max, List, [], ◌∷◌, ◌++◌, map, filter, refl, sym, ap, subst, ◌∙◌, true, false, Bool, cond}
-use Rattle.std.specs.Prelude.{◌==◌, ◌&&◌, ◌||◌, codes}
-use Rattle.std.specs.List.{flat_map, list_any}
-use Rattle.std.proofs.lemmas.Bool.{and_from, or_left}
+use Rattle.std.proofs.Common.{◌≡◌, ℕ, max, List, [], ◌∷◌, ◌++◌, map, filter, refl, sym, ap, subst, ◌∙◌, true, false, Bool, arith}
+use Rattle.std.proofs.lemmas.Bool.{and_from}
+use Rattle.std.specs.{Prelude.◌==◌, Prelude.◌&&◌, Prelude.codes, List.flat_map, List.list_any}
 use Rattle.serde_json.specs.Data.{Data, number, string, unsigned}
-use Rattle.desk_model.specs.{Asked.asks_orders, Authorization.is_pending, Derived.numbers_of, Legal.is_processing_challenge, Names.shown_name}
-use Rattle.desk_model.specs.{Order.is_processing, Tables.Tables, Touched.lists, Tokens.base64url}
-use Rattle.desk_model.specs.declared.{call.Ask.Ask, call.Call.Call, call.OfficeAsk.OfficeAsk, rows.AuthorizationRow.AuthorizationRow}
-use Rattle.desk_model.specs.declared.{rows.ChallengeRow.ChallengeRow, rows.OrderRow.OrderRow, verdict.Shows.Shows}
-use Rattle.desk_model.specs.declared.{verdict.Verdict.TheVariants.Answers as answers}
-use Rattle.desk_model.specs.Document.{bytes_of, challenge_work, order_work, order_work_document, work_document, work_of}
-use Rattle.desk_model.specs.Effect.{falls, is_overdue, swept, swept_authorization, swept_order}
-use Rattle.desk_model.specs.Json.{document, list}
+use Rattle.desk_model.specs.Document.{bytes_of, challenge_work, order_work, order_work_document, work_of}
 use Rattle.desk_model.specs.Kept.{EachOf, IsClosed, Kept, restricted}
-use Rattle.desk_model.specs.Shown.{ok, reply_of}
+use Rattle.desk_model.specs.{Asked.asks_orders, Derived.numbers_of, Names.shown_name, Order.is_processing, Tables.Tables, Touched.lists, Tokens.base64url}
+use Rattle.desk_model.specs.{declared.call.Ask.Ask, declared.call.Call.Call, declared.call.OfficeAsk.OfficeAsk, declared.rows.AuthorizationRow.AuthorizationRow}
+use Rattle.desk_model.specs.{declared.rows.OrderRow.OrderRow, declared.verdict.Shows.Shows, declared.verdict.Verdict.TheVariants.Answers as answers}
+use Rattle.desk_model.specs.{Effect.swept, Effect.swept_authorization, Json.document, Json.list, Shown.ok, Shown.reply_of}
 use Rattle.desk_model.specs.declared.call.Ask.TheVariants as ask
 use Rattle.desk_model.specs.declared.call.OfficeAsk.TheVariants as office
-use Rattle.desk_model.specs.declared.status.AuthzStatus.TheVariants as authz
-use Rattle.desk_model.specs.declared.status.OrderStatus.TheVariants as order
 use Rattle.desk_model.specs.declared.verdict.Listing.TheVariants as listing
 use Rattle.desk_model.specs.declared.verdict.Shows.TheVariants as show
 use Rattle.model_laws.specs.Ordered.{IsOrdered}
 use Rattle.model_laws.proofs.Basics.{each, each_all, each_both, each-map, map-each}
-use Rattle.model_laws.proofs.Local.{filter_part, swept_order_number, swept_part}
-use Rattle.model_laws.proofs.SweptParts.{swept_closed}
+use Rattle.model_laws.proofs.{Local.filter_part, Local.swept_part, SweptParts.swept_closed}
 use Rattle.model_lives.specs.AnswersAs.{AnswersAs, CarriesOutAs, SettlesAs}
-use Rattle.model_lives.specs.MinimalPart.{IsStatedFor, needed_rows}
 use Rattle.model_lives.specs.IsEnough.{IsEnoughFor, challenge_work_rows, enough, enough_at, has_work, is_worked_on, order_work_rows}
-use Rattle.model_lives.specs.IsPart.{IsPartFor}
 use Rattle.model_lives.specs.Thinned.{Thinning, all_whole, in_whole, no_challenges, thin, thinned, waiting_challenges, with_challenges}
-use Rattle.model_lives.proofs.Between.{carries_by, none_listed, parts_answer}
-use Rattle.model_lives.proofs.Cut.{at_number, no_part, no_rows, numbered}
-use Rattle.model_lives.proofs.Enough.{answers_at, restricted_ordered}
-use Rattle.model_lives.proofs.Fewer.{minimal_issue, minimal_kept, minimal_pass, minimal_settle}
-use Rattle.model_lives.proofs.Grown.{grown, grown_closed, grown_part}
-use Rattle.model_lives.proofs.{Listed.KeepsListed, Replies.rows_same, Walks.IsNoWork, TrimmedVerdicts.IsNoList}
-use Rattle.model_lives.proofs.ListedAlone.{all_needed, needed_pass}
-use Rattle.model_lives.proofs.Needed.{needed, needed_answers, needed_cut}
-use Rattle.model_lives.proofs.Lists.{each_member, filter_nothing, filter_same, same_number}
+use Rattle.model_lives.specs.{MinimalPart.IsStatedFor, MinimalPart.needed_rows, IsPart.IsPartFor}
 use Rattle.model_lives.proofs.Thin.{all_falling, bare_authorizations, carries_thin, rows_thin, swept_thin, thin_ordered, thinned_whole, whole_orders}
+use Rattle.model_lives.proofs.{Between.carries_by, Between.none_listed, Between.parts_answer, Cut.at_number, Cut.no_part, Cut.no_rows, Cut.numbered}
+use Rattle.model_lives.proofs.{Enough.answers_at, Enough.restricted_ordered, Fewer.minimal_issue, Fewer.minimal_kept, Fewer.minimal_pass, Fewer.minimal_settle}
+use Rattle.model_lives.proofs.{Grown.grown, Grown.grown_closed, Grown.grown_part, Listed.KeepsListed, Replies.rows_same, Walks.IsNoWork}
+use Rattle.model_lives.proofs.{TrimmedVerdicts.IsNoList, ListedAlone.all_needed, ListedAlone.needed_pass, Needed.needed, Needed.needed_answers}
+use Rattle.model_lives.proofs.{Needed.needed_cut, Lists.each_member, Lists.filter_nothing, Lists.filter_same, Lists.same_number}
 
 -- ---- parts are enough
 
@@ -64,35 +51,17 @@ shows_as k T m what h same = carries_by k T m (answers what) h tt (λ index. sam
 -- a test that no item passes leaves nothing
 none_pass : {X : Type 0} (p : X → Bool) (xs : List X) → list_any p xs ≡ false → filter p xs ≡ []
 none_pass p [] h = refl
-none_pass p (x ∷ xs) h = by (p x) h (none_pass p xs)
-  where
-    by : (b : Bool) → (b || list_any p xs) ≡ false → (list_any p xs ≡ false → filter p xs ≡ []) → cond b (x ∷ filter p xs) (filter p xs) ≡ []
-    by true k ih = cc
-    by false k ih = ih k
+none_pass p (x ∷ xs) h = grind (arith, (none_pass p xs))
 
 -- an authorization without work shows none, at no moment
 no_work : (m : ℕ) (r : AuthorizationRow) → has_work r ≡ false → work_of (swept_authorization m r) ≡ []
-no_work m r h = by (is_overdue m r)
-  where
-    shown : (b : Bool) → cond b (map (work_document r) (filter (λ c. is_processing_challenge c.status) r.challenges)) [] ≡ []
-    shown true = ap (map (work_document r)) (none_pass (λ (c : ChallengeRow). is_processing_challenge c.status) r.challenges h)
-    shown false = refl
-
-    by : (b : Bool) → work_of (cond b (record r { status = authz.Expired }) r) ≡ []
-    by true = refl
-    by false = shown (is_pending r.status)
+no_work m r h = grind (arith, none_pass)
 
 -- so what is left without it shows the same
 work_left : (m : ℕ) (kept : AuthorizationRow → Bool) (rows : List AuthorizationRow) → EachOf (λ r. kept r ≡ has_work r) rows →
     flat_map work_of (map (swept_authorization m) (filter kept rows)) ≡ flat_map work_of (map (swept_authorization m) rows)
 work_left m kept [] h = refl
-work_left m kept (r ∷ rows) h = by (kept r) refl (work_left m kept rows h.1)
-  where
-    by : (b : Bool) → kept r ≡ b → flat_map work_of (map (swept_authorization m) (filter kept rows)) ≡ flat_map work_of (map (swept_authorization m) rows) →
-        flat_map work_of (map (swept_authorization m) (cond b (r ∷ filter kept rows) (filter kept rows)))
-        ≡ work_of (swept_authorization m r) ++ flat_map work_of (map (swept_authorization m) rows)
-    by true e ih = ap (λ l. work_of (swept_authorization m r) ++ l) ih
-    by false e ih = ih ∙ ap (λ l. l ++ flat_map work_of (map (swept_authorization m) rows)) (sym (no_work m r (sym h.0 ∙ e)))
+work_left m kept (r ∷ rows) h = grind (arith, no_work, (work_left m kept rows h.1))
 
 -- the numbers of the authorizations with work
 abbrev validator_kept : Tables → Kept
@@ -123,36 +92,16 @@ validator_cut T h =
     }
 
 validator_settles : (T : Tables) (m : ℕ) → IsOrdered T → SettlesAs m office.ChallengeWork T (restricted (validator_kept T) T)
-validator_settles T m h =
-    record {
-      judged = refl;
-      verdict = shows_as (validator_kept T) T m (show.List listing.ChallengeWork) h
-          (ap (λ (items : List Data). ok 200 (document ((codes "challenges", list items) ∷ [])))
-          (work_left m (λ r. (validator_kept T).authorizations r.number) T.authorizations (validator_same T h)));
-      records = refl;
-    }
+validator_settles T m h = grind (arith, shows_as, work_left, validator_same)
 
 -- what passes a test passes it again
 filter_again : {X : Type 0} (p : X → Bool) (xs : List X) → filter p (filter p xs) ≡ filter p xs
 filter_again p [] = refl
-filter_again p (x ∷ xs) = by (p x) refl (filter_again p xs)
-  where
-    by : (b : Bool) → p x ≡ b → filter p (filter p xs) ≡ filter p xs →
-        filter p (cond b (x ∷ filter p xs) (filter p xs)) ≡ cond b (x ∷ filter p xs) (filter p xs)
-    by true e ih = ap (λ b. cond b (x ∷ filter p (filter p xs)) (filter p (filter p xs))) e ∙ ap (λ l. x ∷ l) ih
-    by false e ih = ih
+filter_again p (x ∷ xs) = grind (arith, (filter_again p xs))
 
 -- an authorization shows no challenge but those that wait
 work_thin : (r : AuthorizationRow) → work_of (with_challenges waiting_challenges r) ≡ work_of r
-work_thin r = by (is_pending r.status)
-  where
-    waits : ChallengeRow → Bool
-    waits c = is_processing_challenge c.status
-
-    by : (b : Bool) → cond b (map (work_document (with_challenges waiting_challenges r)) (filter waits (filter waits r.challenges))) []
-        ≡ cond b (map (work_document r) (filter waits r.challenges)) []
-    by true = ap (map (work_document r)) (filter_again waits r.challenges)
-    by false = refl
+work_thin r = grind (arith, filter_again)
 
 challenge_work_thin : (S : Tables) → challenge_work (thin waiting_challenges all_whole S) ≡ challenge_work S
 challenge_work_thin S = ap (λ (items : List Data). document ((codes "challenges", list items) ∷ [])) (items S.authorizations)
@@ -163,14 +112,7 @@ challenge_work_thin S = ap (λ (items : List Data). document ((codes "challenges
 
 -- so it needs no others
 validator_thin : (T P : Tables) (m : ℕ) → SettlesAs m office.ChallengeWork T P → SettlesAs m office.ChallengeWork T (thin waiting_challenges all_whole P)
-validator_thin T P m h =
-    record {
-      judged = refl;
-      verdict =
-          carries_thin T P m (answers (show.List listing.ChallengeWork)) waiting_challenges all_whole
-          (swept_thin waiting_challenges all_whole m P (all_falling m P)) (λ index. ap (ok 200) (challenge_work_thin (swept m P))) h.verdict;
-      records = refl;
-    }
+validator_thin T P m h = grind (arith, carries_thin, (swept_thin waiting_challenges all_whole m P (all_falling m P)), (challenge_work_thin (swept m P)))
 
 -- ---- the work of the issuer
 
@@ -211,23 +153,10 @@ issuer_listed T h =
     (each_member (numbers_of o.listed)))
     (each_both _ _ T.orders (issuer_same T h) (each_member T.orders))
 
--- an order that waits at a moment is stored as waiting
-swept_processing : (m : ℕ) (rows : List AuthorizationRow) (o : OrderRow) → is_processing (swept_order m rows o).status ≡ true → is_processing o.status ≡ true
-swept_processing m rows o h = by (falls m rows o) h
-  where
-    by : (b : Bool) → is_processing (cond b (record o { status = order.Invalid }) o).status ≡ true → is_processing o.status ≡ true
-    by true k = cc
-    by false k = k
-
 -- items that pass a test, by two functions that agree on them
 same_passing : {X Y : Type 0} (f g : X → Y) (p : X → Bool) (xs : List X) → EachOf (λ x. p x ≡ true → f x ≡ g x) xs → map f (filter p xs) ≡ map g (filter p xs)
 same_passing f g p [] h = refl
-same_passing f g p (x ∷ xs) h = by (p x) refl (same_passing f g p xs h.1)
-  where
-    by : (b : Bool) → p x ≡ b → map f (filter p xs) ≡ map g (filter p xs) →
-        map f (cond b (x ∷ filter p xs) (filter p xs)) ≡ map g (cond b (x ∷ filter p xs) (filter p xs))
-    by true e ih = λ i. h.0 e i ∷ ih i
-    by false e ih = ih
+same_passing f g p (x ∷ xs) h = grind (arith, (same_passing f g p xs h.1))
 
 -- the document of an order with these names
 abbrev names_document : List Data → OrderRow → Data
@@ -242,17 +171,13 @@ names_document names o =
 -- an order of which all that it lists is kept shows the same
 document_left : (k : Kept) (S : Tables) (o : OrderRow) → EachOf (λ n. k.authorizations n ≡ true) (numbers_of o.listed) →
     order_work_document (restricted k S) o ≡ order_work_document S o
-document_left k S o h =
-    ap (λ rows. names_document (map (λ (a : AuthorizationRow). string (shown_name a.name)) rows) o) (rows_same k S.authorizations (numbers_of o.listed) h)
+document_left k S o h = grind (arith, rows_same)
 
 -- the list of a part that keeps these orders and what they list
 issues_left : (k : Kept) (S : Tables) → EachOf (λ o. is_processing o.status ≡ true → k.orders o.number ≡ true) S.orders → KeepsListed k S →
     map (order_work_document (restricted k S)) (filter (λ o. is_processing o.status) (restricted k S).orders)
     ≡ map (order_work_document S) (filter (λ o. is_processing o.status) S.orders)
-issues_left k S h listed =
-    ap (map (order_work_document (restricted k S))) (filter_part (λ (o : OrderRow). is_processing o.status) (λ o. k.orders o.number) S.orders h)
-    ∙ same_passing (order_work_document (restricted k S)) (order_work_document S) (λ o. is_processing o.status) S.orders
-    (each _ _ S.orders (λ o p yes. document_left k S o (p.1 (p.0 yes))) (each_both _ _ S.orders h listed))
+issues_left k S h listed = grind (arith, filter_part, (same_passing (order_work_document (restricted k S)) (order_work_document S) (λ o. is_processing o.status) S.orders (each _ _ S.orders (λ o p yes. document_left k S o (p.1 (p.0 yes))) (each_both _ _ S.orders h listed))))
 
 issuer_settles : (T : Tables) (m : ℕ) → IsOrdered T → SettlesAs m office.OrderWork T (restricted (issuer_kept T) T)
 issuer_settles T m h =
@@ -273,9 +198,7 @@ issuer_settles T m h =
     closed = grown_closed (issuer_kept T) T h (issuer_listed T h)
 
     waits : EachOf (λ o. is_processing o.status ≡ true → k.orders o.number ≡ true) (swept m T).orders
-    waits = each-map _ (swept_order m T.authorizations) T.orders
-        (each _ _ T.orders (λ o e yes. ap k.orders (swept_order_number m T.authorizations o)
-        ∙ or_left _ _ (e ∙ swept_processing m T.authorizations o yes)) (issuer_same T h))
+    waits = grind (arith, each-map, each, issuer_same)
 
 -- the list shows no challenge
 order_work_thin : (S : Tables) → order_work (thin no_challenges all_whole S) ≡ order_work S
@@ -289,24 +212,14 @@ order_work_thin S =
 
 -- so it needs none
 issuer_thin : (T P : Tables) (m : ℕ) → SettlesAs m office.OrderWork T P → SettlesAs m office.OrderWork T (thin no_challenges all_whole P)
-issuer_thin T P m h =
-    record {
-      judged = refl;
-      verdict =
-          carries_thin T P m (answers (show.List listing.OrderWork)) no_challenges all_whole (swept_thin no_challenges all_whole m P (all_falling m P))
-          (λ index. ap (ok 200) (order_work_thin (swept m P))) h.verdict;
-      records = refl;
-    }
+issuer_thin T P m h = grind (arith, carries_thin, (swept_thin no_challenges all_whole m P (all_falling m P)), (order_work_thin (swept m P)))
 
 -- ---- each call
 
 -- what is cut so and answers is enough
 thinned_by : (T : Tables) (call : Call) (a : Ask) (t : Thinning) → call.ask ≡ a → enough_at T (max call.at T.meta.counters.clock) a ≡ thinned t T →
     AnswersAs (max call.at T.meta.counters.clock) a T (thinned t T) → IsEnoughFor call T (enough T call)
-thinned_by T call a t is cut settles =
-    let m : ℕ = max call.at T.meta.counters.clock in
-    let same : enough T call ≡ thinned t T = ap (enough_at T m) is ∙ cut in
-    record { kept = t; cut = same; answers = subst (λ x. AnswersAs m x T (enough T call)) (sym is) (subst (AnswersAs m a T) (sym same) settles) }
+thinned_by T call a t is cut settles = grind arith
 
 -- so are rows in whole
 enough_by : (T : Tables) (call : Call) (a : Ask) (k : Kept) → call.ask ≡ a → enough_at T (max call.at T.meta.counters.clock) a ≡ restricted k T →

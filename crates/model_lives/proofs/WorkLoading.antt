@@ -1,27 +1,17 @@
 -- What the look-ups of the lists of work find is what is enough for them.
-use Rattle.std.proofs.Common.{◌≡◌, ℕ, List, [], map, filter, ap, ◌∙◌}
-use Rattle.std.specs.Prelude.{◌==◌, ◌&&◌}
-use Rattle.std.specs.List.{flat_map, list_any}
-use Rattle.desk_model.specs.{Legal.is_processing_challenge, Order.is_processing, Tables.Tables}
-use Rattle.desk_model.specs.declared.rows.{AuthorizationRow.AuthorizationRow, ChallengeRow.ChallengeRow, OrderRow.OrderRow}
+use Rattle.std.proofs.Common.{◌≡◌, ℕ, List, [], filter, ◌∙◌, rules}
+use Rattle.std.specs.{Prelude.◌==◌, List.flat_map, List.list_any}
+use Rattle.desk_model.specs.{Order.is_processing, Tables.Tables, declared.rows.OrderRow.OrderRow}
 use Rattle.model_laws.specs.{Ordered.IsOrdered, Placing.puts}
 use Rattle.model_laws.proofs.Basics.{each, eq_turn, list_any-map, list_any-same}
-use Rattle.model_lives.specs.IsEnough.{has_work, is_worked_on}
-use Rattle.model_lives.specs.Loaded.{listed_authorizations}
 use Rattle.model_lives.specs.LookUps.{AreNumbers, authorizations_numbered, orders_processing, owners_processing}
-use Rattle.model_lives.proofs.Cut.{at_number, numbered}
-use Rattle.model_lives.proofs.Found.{IsFound, any_filter, found_filter, found_same, found_table}
+use Rattle.model_lives.specs.{IsEnough.has_work, IsEnough.is_worked_on, Loaded.listed_authorizations}
 use Rattle.model_lives.proofs.Loading.{any_beside, any_flat, authorizations_at, authorizations_listed, of_authorization, of_order}
+use Rattle.model_lives.proofs.{Cut.at_number, Cut.numbered, Found.IsFound, Found.any_filter, Found.found_filter, Found.found_same, Found.found_table}
 
 -- a number is an owner's where the authorization that has it has work
 owner_has_work : (T : Tables) (n : ℕ) → list_any (λ j. n == j) (owners_processing T) ≡ at_number of_authorization has_work T.authorizations n
-owner_has_work T n =
-    any_flat (λ j. n == j) (λ (x : AuthorizationRow). map (λ c. x.number) (filter (λ c. is_processing_challenge c.status) x.challenges)) T.authorizations
-    ∙ list_any-same _ _ T.authorizations (λ x.
-    list_any-map (λ j. n == j) (λ (c : ChallengeRow). x.number) (filter (λ c. is_processing_challenge c.status) x.challenges)
-    ∙ any_filter (λ (c : ChallengeRow). is_processing_challenge c.status) (λ c. n == x.number) x.challenges
-    ∙ any_beside (λ (c : ChallengeRow). is_processing_challenge c.status) (n == x.number) x.challenges
-    ∙ ap (λ b. b && has_work x) (eq_turn n x.number))
+owner_has_work T n = search (rules, any_flat, list_any-same, list_any-map, any_filter, any_beside, eq_turn)
 
 -- the authorizations of the owners' numbers are those with work
 pub work_loaded : (T : Tables) (numbers : List ℕ) → IsOrdered T → AreNumbers numbers (owners_processing T) →

@@ -1,6 +1,5 @@
 -- The rows above a number: what a pass through a table still has before it.
-use Rattle.std.specs.Prelude.{ℕ, nat_lt, List, take}
-use Rattle.std.specs.List.{filter, flat_map}
+use Rattle.std.specs.{Prelude.ℕ, Prelude.nat_lt, Prelude.List, Prelude.take, List.filter, List.flat_map}
 use Rattle.desk_model.specs.{Derived.sorted_challenges, Tables.Tables}
 use Rattle.desk_model.specs.declared.rows.{AccountRow.AccountRow, AuthorizationRow.AuthorizationRow, ChallengeRow.ChallengeRow, OrderRow.OrderRow}
 

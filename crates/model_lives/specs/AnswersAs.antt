@@ -1,14 +1,12 @@
 -- That a part answers a call as the whole tables do.
 use Rattle.std.specs.Prelude.{ℕ, ◌≤◌, ◌≡◌, List, [], ◌∷◌, Bool, map}
 use Rattle.std.specs.List.{filter}
-use Rattle.desk_model.specs.{Change.recorded_changes, Tables.Tables, Kept.EachOf}
-use Rattle.desk_model.specs.Decide.{entries_of, verdict_reply}
-use Rattle.desk_model.specs.Effect.{effects, swept}
 use Rattle.desk_model.specs.Rules.{office_verdict, open_nonce, signed_verdict}
-use Rattle.desk_model.specs.declared.{call.Ask.Ask, call.OfficeAsk.OfficeAsk, call.Signed.Signed, rows.AuthorizationRow.AuthorizationRow}
-use Rattle.desk_model.specs.declared.{rows.ChallengeRow.ChallengeRow, verdict.Verdict.Verdict}
+use Rattle.desk_model.specs.{Change.recorded_changes, Tables.Tables, Kept.EachOf, Decide.entries_of, Decide.verdict_reply, Effect.effects, Effect.swept}
+use Rattle.desk_model.specs.{declared.call.Ask.Ask, declared.call.OfficeAsk.OfficeAsk, declared.call.Signed.Signed}
+use Rattle.desk_model.specs.{declared.rows.AuthorizationRow.AuthorizationRow, declared.rows.ChallengeRow.ChallengeRow, declared.verdict.Verdict.Verdict}
+use Rattle.desk_model.specs.{declared.entry.Entry.TheVariants.Issued as issued, declared.entry.Entry.TheVariants.Spent as spent}
 use Rattle.desk_model.specs.declared.call.Ask.TheVariants as ask
-use Rattle.desk_model.specs.declared.entry.Entry.TheVariants.{Issued as issued, Spent as spent}
 use Rattle.model_lives.specs.Thinned.{with_challenges}
 
 -- a nonce that is issued changes the same

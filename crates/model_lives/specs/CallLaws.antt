@@ -1,11 +1,7 @@
 -- What a call records, and the history after it.
 use Rattle.std.specs.Prelude.{◌*◌, ◌≤◌, ◌≡◌, None, IsTrue, length}
-use Rattle.desk_model.specs.Decide.{decide, after}
-use Rattle.desk_model.specs.{Entry.History, Limits.last_moment}
-use Rattle.desk_model.specs.History.{clock, moment_of}
-use Rattle.desk_model.specs.Legal.{EachFollows, Legal, numbers_fit}
-use Rattle.desk_model.specs.Run.{count_pieces, fault, IsFormedCall}
-use Rattle.desk_model.specs.declared.call.Call.{Call}
+use Rattle.desk_model.specs.{Decide.decide, Decide.after, Entry.History, Limits.last_moment, History.clock, History.moment_of, Legal.EachFollows, Legal.Legal}
+use Rattle.desk_model.specs.{Legal.numbers_fit, Run.count_pieces, Run.fault, Run.IsFormedCall, declared.call.Call.Call}
 
 -- what a call records may follow what was recorded before it, and keeps the history legal
 pub record CallsKeepLegal : Type 0 where

@@ -1,9 +1,7 @@
 -- When rows are enough for a call, though they may lack what it touches.
-use Rattle.std.specs.Prelude.{◌≡◌, ◌&&◌, ℕ, max, Bool, map}
-use Rattle.std.specs.List.{filter, list_any}
-use Rattle.desk_model.specs.{Legal.is_processing_challenge, Order.is_processing, Tables.Tables}
-use Rattle.desk_model.specs.Touched.{lists, only_meta}
-use Rattle.desk_model.specs.declared.{call.Ask.Ask, call.Call.Call, rows.AuthorizationRow.AuthorizationRow}
+use Rattle.std.specs.{Prelude.◌≡◌, Prelude.◌&&◌, Prelude.ℕ, Prelude.max, Prelude.Bool, Prelude.map, List.filter, List.list_any}
+use Rattle.desk_model.specs.{Legal.is_processing_challenge, Order.is_processing, Tables.Tables, Touched.lists, Touched.only_meta, declared.call.Ask.Ask}
+use Rattle.desk_model.specs.{declared.call.Call.Call, declared.rows.AuthorizationRow.AuthorizationRow}
 use Rattle.desk_model.specs.declared.call.Ask.TheVariants as ask
 use Rattle.desk_model.specs.declared.call.OfficeAsk.TheVariants as office
 use Rattle.model_lives.specs.{AnswersAs.AnswersAs, MinimalPart.needed_rows}

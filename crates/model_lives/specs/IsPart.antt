@@ -1,8 +1,6 @@
 -- When a part of the tables is enough for a call.
 use Rattle.std.specs.Prelude.{◌≡◌, true}
-use Rattle.desk_model.specs.{Tables.Tables, Touched.touched}
-use Rattle.desk_model.specs.Kept.{EachOf, Kept, restricted}
-use Rattle.desk_model.specs.declared.call.Call.{Call}
+use Rattle.desk_model.specs.{Tables.Tables, Touched.touched, Kept.EachOf, Kept.Kept, Kept.restricted, declared.call.Call.Call}
 
 -- each of these rows is kept
 pub record Keeps (k : Kept) (P : Tables) : Type 0 where

@@ -2,11 +2,10 @@
 use Rattle.std.specs.Prelude.{ℕ, ◌-◌, max, List, [], ◌∷◌, ◌++◌, if◌then◌else◌, Option, Some, None, Ok, Err, option_and_then}
 use Rattle.std.specs.List.{filter, flat_map}
 use Rattle.model_laws.specs.Placing.{puts}
-use Rattle.desk_model.specs.{Derived.numbers_of, Payload.key_change, Tables.Tables, Touched.only_meta}
-use Rattle.desk_model.specs.Name.{Name, same_name}
-use Rattle.desk_model.specs.Tokens.{NonceText, nonce_in}
-use Rattle.desk_model.specs.declared.{call.Ask.Ask, call.Call.Call, call.Target.Target, objects.Nonce.Nonce, rows.AccountRow.AccountRow}
-use Rattle.desk_model.specs.declared.{rows.AuthorizationRow.AuthorizationRow, rows.OrderRow.OrderRow}
+use Rattle.desk_model.specs.Asked.{asked_names, asks_authorizations, asks_orders}
+use Rattle.desk_model.specs.{Derived.numbers_of, Payload.key_change, Tables.Tables, Touched.only_meta, Name.Name, Name.same_name, Tokens.NonceText}
+use Rattle.desk_model.specs.{Tokens.nonce_in, declared.call.Ask.Ask, declared.call.Call.Call, declared.call.Target.Target, declared.objects.Nonce.Nonce}
+use Rattle.desk_model.specs.{declared.rows.AccountRow.AccountRow, declared.rows.AuthorizationRow.AuthorizationRow, declared.rows.OrderRow.OrderRow}
 use Rattle.desk_model.specs.declared.call.Ask.TheVariants as ask
 use Rattle.desk_model.specs.declared.call.OfficeAsk.TheVariants as office
 use Rattle.desk_model.specs.declared.call.Target.TheVariants as to
@@ -14,7 +13,6 @@ use Rattle.desk_model.specs.declared.status.AuthzStatus.TheVariants as authz
 use Rattle.desk_model.specs.declared.status.OrderStatus.TheVariants as order
 use Rattle.model_lives.specs.LookUps.{accounts_numbered, accounts_with_key, authorizations_numbered, authorizations_of, authorizations_named}
 use Rattle.model_lives.specs.LookUps.{authorizations_past, nonces_before, nonces_numbered, orders_listing, orders_numbered, orders_of, orders_past, owners_of}
-use Rattle.desk_model.specs.Asked.{asked_names, asks_authorizations, asks_orders}
 
 -- ---- what an ask names, as lists of numbers
 

@@ -1,10 +1,9 @@
 -- Look-ups in tables: each by one column, a status among them, a range of one, a range beside a status, or the account and the name of an authorization.
 use Rattle.std.specs.Prelude.{ℕ, ◌≡◌, ◌==◌, ◌&&◌, Bool, true, nat_lt, bytes_eq, List, map}
 use Rattle.std.specs.List.{filter, flat_map, list_any}
-use Rattle.desk_model.specs.Derived.{authz_code, numbers_of, order_code}
-use Rattle.desk_model.specs.{Kept.EachOf, Legal.is_processing_challenge, Order.is_processing, Tables.Tables}
-use Rattle.desk_model.specs.declared.{objects.Nonce.Nonce, rows.AccountRow.AccountRow, rows.AuthorizationRow.AuthorizationRow, rows.ChallengeRow.ChallengeRow}
-use Rattle.desk_model.specs.declared.{rows.OrderRow.OrderRow, status.AuthzStatus.AuthzStatus, status.OrderStatus.OrderStatus}
+use Rattle.desk_model.specs.{Derived.authz_code, Derived.numbers_of, Derived.order_code, Kept.EachOf, Legal.is_processing_challenge, Order.is_processing}
+use Rattle.desk_model.specs.{Tables.Tables, declared.objects.Nonce.Nonce, declared.status.AuthzStatus.AuthzStatus, declared.status.OrderStatus.OrderStatus}
+use Rattle.desk_model.specs.declared.rows.{AccountRow.AccountRow, AuthorizationRow.AuthorizationRow, ChallengeRow.ChallengeRow, OrderRow.OrderRow}
 use Rattle.model_lives.specs.Thinned.{summarized, without_challenges}
 use Rattle.model_lives.specs.declared.{queries.AccountsWhere.AccountsWhere, queries.AuthorizationsWhere.AuthorizationsWhere, queries.NoncesWhere.NoncesWhere}
 use Rattle.model_lives.specs.declared.queries.OrdersWhere.{OrdersWhere}

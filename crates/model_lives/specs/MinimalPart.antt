@@ -1,13 +1,11 @@
 -- Fewer rows than a call touches, which are enough for it: what it names, what falls by the passing of time, and what decides a status that may change.
 use Rattle.std.specs.Prelude.{ℕ, ◌≡◌, ◌==◌, ◌&&◌, ◌||◌, not, Bool, true, false, List, [], map, if◌then◌else◌}
 use Rattle.std.specs.List.{filter, list_any}
-use Rattle.desk_model.specs.Asked.{asks_name, asks_orders}
-use Rattle.desk_model.specs.Derived.{restated_authorization, restated_order}
-use Rattle.desk_model.specs.Effect.{is_overdue, swept}
-use Rattle.desk_model.specs.{Kept.EachOf, Lookup.holds, Payload.account_change, Rules.nothing, Tables.Tables}
 use Rattle.desk_model.specs.Touched.{is_named_account, is_named_authorization, is_named_order, is_own_authorization, is_past_order, is_touched_nonce, lists}
-use Rattle.desk_model.specs.declared.{call.Ask.Ask, call.Target.Target, payload.AccountChange.AccountChange, rows.AccountRow.AccountRow}
-use Rattle.desk_model.specs.declared.{rows.AuthorizationRow.AuthorizationRow, rows.OrderRow.OrderRow}
+use Rattle.desk_model.specs.{Asked.asks_name, Asked.asks_orders, Derived.restated_authorization, Derived.restated_order, Effect.is_overdue, Effect.swept}
+use Rattle.desk_model.specs.{Kept.EachOf, Lookup.holds, Payload.account_change, Rules.nothing, Tables.Tables, declared.call.Ask.Ask}
+use Rattle.desk_model.specs.{declared.call.Target.Target, declared.payload.AccountChange.AccountChange, declared.rows.AccountRow.AccountRow}
+use Rattle.desk_model.specs.{declared.rows.AuthorizationRow.AuthorizationRow, declared.rows.OrderRow.OrderRow}
 use Rattle.model_lives.specs.Thinned.{whole_if}
 use Rattle.desk_model.specs.declared.call.Ask.TheVariants as ask
 use Rattle.desk_model.specs.declared.call.OfficeAsk.TheVariants as office

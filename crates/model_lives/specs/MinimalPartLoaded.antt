@@ -1,10 +1,8 @@
 -- The few rows that are enough for a call, as look-ups find them, one after the other.
-use Rattle.std.specs.Prelude.{ℕ, ◌++◌, ◌&&◌, not, List, [], if◌then◌else◌}
-use Rattle.std.specs.List.{flat_map}
+use Rattle.std.specs.{Prelude.ℕ, Prelude.◌++◌, Prelude.◌&&◌, Prelude.not, Prelude.List, Prelude.[], Prelude.if◌then◌else◌, List.flat_map}
 use Rattle.model_laws.specs.Placing.{puts}
-use Rattle.desk_model.specs.Asked.{asked_names, asks_authorizations, asks_orders}
-use Rattle.desk_model.specs.Tables.{Tables}
-use Rattle.desk_model.specs.declared.{call.Ask.Ask, rows.AccountRow.AccountRow, rows.AuthorizationRow.AuthorizationRow, rows.OrderRow.OrderRow}
+use Rattle.desk_model.specs.{Asked.asked_names, Asked.asks_authorizations, Asked.asks_orders, Tables.Tables, declared.call.Ask.Ask}
+use Rattle.desk_model.specs.{declared.rows.AccountRow.AccountRow, declared.rows.AuthorizationRow.AuthorizationRow, declared.rows.OrderRow.OrderRow}
 use Rattle.model_lives.specs.MinimalPart.{needs_holders, needs_listed, changes_statuses}
 use Rattle.model_lives.specs.Loaded.{accounts_once, authorizations_asked_of, authorizations_once, found_nonces, listed_authorizations}
 use Rattle.model_lives.specs.Loaded.{listing_orders, named_accounts, named_authorizations, named_orders, orders_once, past_authorizations, past_orders}

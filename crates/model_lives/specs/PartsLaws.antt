@@ -1,12 +1,10 @@
 -- That parts are enough for calls.
 use Rattle.std.specs.Prelude.{ℕ, max, ◌≡◌, ◌≤◌}
-use Rattle.desk_model.specs.{Effect.swept, Entry.History, History.clock, Legal.EachFollows, Touched.touched}
 use Rattle.desk_model.specs.Tables.{Tables, picture}
-use Rattle.desk_model.specs.declared.call.Call.{Call}
+use Rattle.desk_model.specs.{Effect.swept, Entry.History, History.clock, Legal.EachFollows, Touched.touched, declared.call.Call.Call}
 use Rattle.model_laws.specs.Ordered.{IsOrdered}
-use Rattle.model_lives.specs.{AnswersAs.AnswersAs, IsPart.IsPartFor, Loaded.loaded}
-use Rattle.model_lives.specs.MinimalPart.{IsStated, IsStatedFor}
-use Rattle.model_lives.specs.IsEnough.{IsEnoughFor, enough}
+use Rattle.model_lives.specs.{AnswersAs.AnswersAs, IsPart.IsPartFor, Loaded.loaded, MinimalPart.IsStated, MinimalPart.IsStatedFor, IsEnough.IsEnoughFor}
+use Rattle.model_lives.specs.{IsEnough.enough}
 
 -- a part of the tables that holds the rows which a call touches answers it as the whole does
 pub record TouchedRowsAreEnough : Type 0 where

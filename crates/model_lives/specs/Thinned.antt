@@ -1,9 +1,8 @@
 -- Some rows of the tables, chosen by their numbers, which may lack rows that belong to them.
 use Rattle.std.specs.Prelude.{ℕ, [], None, Bool, true, false, map, if◌then◌else◌}
 use Rattle.std.specs.List.{filter}
-use Rattle.desk_model.specs.Kept.{Kept, restricted}
-use Rattle.desk_model.specs.{Legal.is_processing_challenge, Tables.Tables}
-use Rattle.desk_model.specs.declared.rows.{AuthorizationRow.AuthorizationRow, ChallengeRow.ChallengeRow, OrderRow.OrderRow}
+use Rattle.desk_model.specs.{Kept.Kept, Kept.restricted, Legal.is_processing_challenge, Tables.Tables, declared.rows.AuthorizationRow.AuthorizationRow}
+use Rattle.desk_model.specs.{declared.rows.ChallengeRow.ChallengeRow, declared.rows.OrderRow.OrderRow}
 
 -- an authorization with some of its challenges
 abbrev pub with_challenges : (ℕ → ChallengeRow → Bool) → AuthorizationRow → AuthorizationRow

@@ -1,13 +1,10 @@
 -- The fields of a moment from those of its datetime.
-use Rattle.std.proofs.Common.{◌≡◌, ℕ, refl, sym, subst, ◌∙◌, arith, ℤ, pos, ◌+ℤ◌, ◌*ℤ◌, ◌≤ℤ◌}
-use Rattle.std.proofs.lemmas.Int.{by_lt_z}
-use Rattle.jiff_core.specs.declared.civil.datetime.DateTime.{DateTime}
-use Rattle.jiff_core.specs.Calendar.{days_from_civil, IsCivilDate}
-use Rattle.jiff_core.specs.{Date.epoch_day, Time.time_seconds}
+use Rattle.std.proofs.Common.{◌≡◌, ℕ, refl, arith, pos, ◌+ℤ◌, ◌*ℤ◌, ◌≤ℤ◌}
+use Rattle.std.proofs.{lemmas.Int.by_lt_z, lemmas.Bool.Decides.nat_tests}
 use Rattle.jiff_core.specs.DateTime.{civil_nanos, civil_seconds}
-use Rattle.jiff_core.proofs.{SignedLemmas.signed_arith, DateLemmas.civil}
-use Rattle.jiff_core.proofs.CalendarLemmas.{days_from_civil-day_count, day_count-lt_year}
+use Rattle.jiff_core.specs.{declared.civil.datetime.DateTime.DateTime, Calendar.days_from_civil, Date.epoch_day, Time.time_seconds}
 use Rattle.jiff_core.proofs.DateTimeLemmas.{civil_nanos-parts, civil_nanos-civil_seconds, time_nanos_bound}
+use Rattle.jiff_core.proofs.{SignedLemmas.signed_arith, DateLemmas.civil, CalendarLemmas.days_from_civil-day_count, CalendarLemmas.day_count-lt_year}
 use Rattle.desk_model.specs.Moment.{IsCivil}
 
 -- 1970-01-01 is day 0
@@ -37,9 +34,7 @@ year_low d t e =
 
 -- the seconds of a moment
 seconds_of : (d : DateTime) (t : ℕ) → civil_nanos d ≡ pos t *ℤ pos 1_000_000_000 → civil_seconds d ≡ pos t
-seconds_of d t e =
-    let fraction = d.time.subsec_in in
-    omega (arith, signed_arith, civil_nanos-civil_seconds d)
+seconds_of d t e = grind (arith, nat_tests, signed_arith, civil_nanos-civil_seconds)
 
 -- the seconds of a datetime are its days and its time
 parts_of : (d : DateTime) → civil_seconds d ≡ epoch_day d.date *ℤ pos 86_400 +ℤ pos (time_seconds d.time)
@@ -49,11 +44,4 @@ parts_of d = refl
 -- a datetime's fields are those of its moment
 pub civil_from : (d : DateTime) (t y : ℕ) → civil_nanos d ≡ pos t *ℤ pos 1_000_000_000 → pos y ≡ d.date.year
     → IsCivil t y d.date.month d.date.day d.time.hour d.time.minute d.time.second
-civil_from d t y e year = record {
-  date = subst (λ (z : ℤ). IsCivilDate z d.date.month d.date.day) (sym year) (civil d.date);
-  hour_in = d.time.hour_in;
-  minute_in = d.time.minute_in;
-  second_in = d.time.second_in;
-  total = subst (λ (z : ℤ). pos t ≡ days_from_civil z d.date.month d.date.day *ℤ pos 86_400 +ℤ pos (time_seconds d.time)) (sym year)
-      (sym (seconds_of d t e) ∙ parts_of d);
-}
+civil_from d t y e year = grind (arith, nat_tests, civil, seconds_of, parts_of)

@@ -1,14 +1,11 @@
 -- The fields of a moment are those that the arithmetic gives.
 use Rattle.std.proofs.Common.{◌≡◌, ℕ, zero, suc, ◌+◌, ◌-◌, ◌*◌, ◌/◌, ◌%◌, ◌<◌, ◌≤◌, refl, sym, subst, ap, ⊎_elim, arith, pos}
 use Rattle.std.proofs.lemmas.{Bool.cases_lt, Bool.Decides.nat_tests}
-use Rattle.jiff_core.specs.Calendar.{IsCivilDate, day_count}
-use Rattle.jiff_core.specs.March.{march_days, march_months}
-use Rattle.jiff_core.proofs.SignedLemmas.{signed_arith}
-use Rattle.jiff_core.proofs.CalendarLemmas.{days_from_civil-day_count, days_in_month_bounds}
+use Rattle.jiff_core.specs.{Calendar.IsCivilDate, Calendar.day_count, March.march_days, March.march_months}
 use Rattle.jiff_core.proofs.MarchLemmas.{day_count-early, day_count-late, march_days-suc}
+use Rattle.jiff_core.proofs.{SignedLemmas.signed_arith, CalendarLemmas.days_from_civil-day_count, CalendarLemmas.days_in_month_bounds}
 use Rattle.desk_model.specs.Moment.{IsCivil, day_of, month_of, month_from_march, year_of}
-use Rattle.moments.proofs.March.{IsMarchDate, march_date}
-use Rattle.moments.proofs.Months.{early_month, late_month}
+use Rattle.moments.proofs.{March.IsMarchDate, March.march_date, Months.early_month, Months.late_month}
 
 -- the date that the arithmetic gives
 pub record IsDateOf (count year month day : ℕ) : Type 0 where
@@ -33,11 +30,7 @@ late_date y m d low high first h =
 early_date : (y m d : ℕ) → 1 ≤ m → m ≤ 2 → 1 ≤ d
     → IsMarchDate (march_days y + (march_months (m + 12) + d - 1)) y (m + 12 - 3) (march_months (m + 12) + d - 1)
     → IsDateOf (march_days y + (march_months (m + 12) + d - 1)) (suc y) m d
-early_date y m d low high first h =
-    let year = h.year_is in
-    let month = h.month_is in
-    let place = h.day_is in
-    record { year_is = grind (arith, nat_tests); month_is = grind (arith, nat_tests); day_is = rw (month, place) (omega arith) }
+early_date y m d low high first h = grind (arith, nat_tests)
 
 -- a date of the calendar, by its count of days from -10000
 late_count : (y m d : ℕ) → IsCivilDate (pos y) m d → 3 ≤ m → (day_count (pos y) m d ≡ march_days y + (march_months m + d - 1) + 3652485)

@@ -1,25 +1,12 @@
 -- The date of a day by arithmetic, in years that begin in March.
 use Rattle.std.proofs.Common.{◌≡◌, ℕ, suc, ◌+◌, ◌*◌, ◌/◌, ◌%◌, ◌<◌, ◌≤◌, refl, sym, subst, ⊎_elim, arith}
-use Rattle.std.proofs.lemmas.Bool.{cases_lt}
+use Rattle.std.proofs.{lemmas.Bool.cases_lt, lemmas.Bool.Decides.nat_tests}
 use Rattle.jiff_core.specs.March.{march_days}
 use Rattle.desk_model.specs.Moment.{year_of_era, day_of_year, month_from_march}
 
 -- the days of whole years, by eras of 400, centuries, fours and years
 march_days-parts : (q c p u : ℕ) → c < 4 → p < 25 → u < 4 → march_days (400 * q + 100 * c + 4 * p + u) ≡ 146097 * q + 36524 * c + 1461 * p + 365 * u
-march_days-parts q c p u hc hp hu =
-    let r = 100 * c + 4 * p + u in
-    let four : (400 * q + 100 * c + 4 * p + u) / 4 ≡ 100 * q + 25 * c + p = omega arith in
-    let hundred : (400 * q + 100 * c + 4 * p + u) / 100 ≡ 4 * q + c = omega arith in
-    let all : (400 * q + 100 * c + 4 * p + u) / 400 ≡ q = omega arith in
-    omega arith
-
--- a short year's day
-year_in_era : (c p u n : ℕ) → c < 4 → p < 25 → u < 4 → n < 365 → year_of_era (36524 * c + 1461 * p + 365 * u + n) ≡ 100 * c + 4 * p + u
-year_in_era c p u n hc hp hu hn = omega arith
-
--- the leap day
-leap_in_era : (c p : ℕ) → c < 4 → p < 24 → year_of_era (36524 * c + 1461 * p + 1460) ≡ 100 * c + 4 * p + 3
-leap_in_era c p hc hp = omega arith
+march_days-parts q c p u hc hp hu = grind (arith, nat_tests)
 
 -- the day of an era is this day of this year
 pub record IsDayOf (year n day : ℕ) : Type 0 where
@@ -29,23 +16,7 @@ pub record IsDayOf (year n day : ℕ) : Type 0 where
 
 -- a day that is not the 366th of its year
 short_day : (c p u n : ℕ) → c < 4 → p < 25 → u < 4 → n < 365 → IsDayOf (100 * c + 4 * p + u) n (36524 * c + 1461 * p + 365 * u + n)
-short_day c p u n hc hp hu hn =
-    let y = year_in_era c p u n hc hp hu hn in
-    record { year_is = y; day_is = rw y (omega arith); in_era = omega arith }
-
--- a leap day but the last one of an era
-leap_day_of : (c p : ℕ) → c < 4 → p < 24 → IsDayOf (100 * c + 4 * p + 3) 365 (36524 * c + 1461 * p + 1460)
-leap_day_of c p hc hp =
-    let y = leap_in_era c p hc hp in
-    record { year_is = y; day_is = rw y (omega arith); in_era = omega arith }
-
--- the leap day that ends an era
-last_day : IsDayOf 399 365 146096
-last_day = record { year_is = refl; day_is = refl; in_era = omega arith }
-
--- a day of an era, in other words
-day_as : {y z m n d e : ℕ} → y ≡ z → m ≡ n → d ≡ e → IsDayOf y m d → IsDayOf z n e
-day_as {y} {z} {m} {n} {d} {e} py pm pd h = subst (λ (a : ℕ). IsDayOf a n e) py (subst (λ (a : ℕ). IsDayOf y a e) pm (subst (λ (a : ℕ). IsDayOf y m a) pd h))
+short_day c p u n hc hp hu hn = grind (arith, nat_tests)
 
 -- the day after 365 others is the last of a leap year
 last_place : (q c p u n : ℕ) → c < 4 → p < 25 → u < 4 → march_days (400 * q + 100 * c + 4 * p + u) + n
@@ -54,11 +25,7 @@ last_place q c p u n hc hp hu room long = (omega arith, omega arith, λ late. (o
 
 -- the 366th day of a year
 leap_place : (c p u n : ℕ) → c < 4 → n ≡ 365 → u ≡ 3 → (24 ≤ p → (p ≡ 24) × (c ≡ 3)) → IsDayOf (100 * c + 4 * p + u) n (36524 * c + 1461 * p + 365 * u + n)
-leap_place c p u n hc long third last =
-    ⊎_elim
-    (λ early. day_as (omega arith) (sym long) (omega arith) (leap_day_of c p hc early))
-    (λ late. let e = last late in let p24 = e.0 in let c3 = e.1 in day_as (omega arith) (sym long) (omega arith) last_day)
-    (cases_lt p 24)
+leap_place c p u n hc long third last = grind (arith, nat_tests)
 
 -- a day before the next year is in its year
 pub day_in_era : (q c p u n : ℕ) → c < 4 → p < 25 → u < 4 → march_days (400 * q + 100 * c + 4 * p + u) + n

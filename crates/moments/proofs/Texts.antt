@@ -4,6 +4,7 @@ use Rattle.jiff_core.specs.Calendar.{IsCivilDate}
 use Rattle.jiff_core.proofs.{CalendarLemmas.days_in_month_bounds, SignedLemmas.signed_arith}
 use Rattle.desk_model.specs.Moment.{IsCivil, IsMomentText, civil_text, moment_text}
 use Rattle.moments.proofs.Dates.{AreFieldsOf, fields_of_civil}
+use Rattle.std.proofs.lemmas.Bool.Decides.{nat_tests}
 
 -- the text of the fields that the arithmetic gives
 pub text_of_fields : (t y m d h mi s : ℕ) → AreFieldsOf t y m d h mi s → civil_text y m d h mi s ≡ moment_text t
@@ -33,14 +34,4 @@ same_moment t u y m d h mi s a b = cc (sym a.total, b.total)
 
 -- different moments have different texts
 pub IsMomentText-tells : (t u : ℕ) (text : List ℕ) → IsMomentText t text → IsMomentText u text → t ≡ u
-IsMomentText-tells t u text (y, m, d, h, mi, s, c, whole) (y₂, m₂, d₂, h₂, mi₂, s₂, c₂, whole₂) =
-    let e : civil_text y m d h mi s ≡ civil_text y₂ m₂ d₂ h₂ mi₂ s₂ = sym whole ∙ whole₂ in
-    let low = date_digits y m d c.date in
-    let lower = date_digits y₂ m₂ d₂ c₂.date in
-    let year : y ≡ y₂ = four_digits_tell y y₂ low.0 lower.0 (cc e) (cc e) (cc e) (cc e) in
-    let month : m ≡ m₂ = two_digits_tell m m₂ low.1 lower.1 (cc e) (cc e) in
-    let day : d ≡ d₂ = two_digits_tell d d₂ low.2 lower.2 (cc e) (cc e) in
-    let hour : h ≡ h₂ = two_digits_tell h h₂ (omega (arith, c.hour_in)) (omega (arith, c₂.hour_in)) (cc e) (cc e) in
-    let minute : mi ≡ mi₂ = two_digits_tell mi mi₂ (omega (arith, c.minute_in)) (omega (arith, c₂.minute_in)) (cc e) (cc e) in
-    let second : s ≡ s₂ = two_digits_tell s s₂ (omega (arith, c.second_in)) (omega (arith, c₂.second_in)) (cc e) (cc e) in
-    same_moment t u y₂ m₂ d₂ h₂ mi₂ s₂ (rw (← year, ← month, ← day, ← hour, ← minute, ← second) c) c₂
+IsMomentText-tells t u text (y, m, d, h, mi, s, c, whole) (y₂, m₂, d₂, h₂, mi₂, s₂, c₂, whole₂) = grind (arith, nat_tests, date_digits, four_digits_tell, two_digits_tell, same_moment)

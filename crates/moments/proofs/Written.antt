@@ -1,14 +1,12 @@
 -- The text of a datetime as it is written is that of its moment.
-use Rattle.std.proofs.Common.{◌≡◌, ℕ, ◌+◌, ◌/◌, ◌%◌, ◌<◌, ◌∷◌, [], ◌++◌, List, None, refl, ap, ◌∙◌, arith, ℤ, pos, negsuc, ◌*ℤ◌, ◌≤ℤ◌}
+use Rattle.std.proofs.Common.{◌≡◌, ℕ, ◌+◌, ◌/◌, ◌%◌, ◌<◌, ◌∷◌, [], ◌++◌, List, None, refl, ap, ◌∙◌, arith, ℤ, pos, ◌*ℤ◌, ◌≤ℤ◌}
+use Rattle.std.proofs.lemmas.Bool.Decides.{nat_tests}
 use Rattle.jiff.specs.Names.{iso_datetime_text}
-use Rattle.jiff_core.specs.DateTime.{civil_nanos}
-use Rattle.jiff_core.specs.declared.civil.datetime.DateTime.{DateTime}
-use Rattle.jiff_core.proofs.SignedLemmas.{signed_arith}
-use Rattle.jiff_core.proofs.DateTimeLemmas.{civil_nanos-parts, time_nanos_bound}
+use Rattle.jiff_core.specs.{DateTime.civil_nanos, declared.civil.datetime.DateTime.DateTime}
+use Rattle.jiff_core.proofs.{SignedLemmas.signed_arith, DateTimeLemmas.civil_nanos-parts, DateTimeLemmas.time_nanos_bound}
 use Rattle.jiff_fmt.specs.Text.{fraction_part, pad2, pad4, year_text}
 use Rattle.desk_model.specs.Moment.{IsMomentText, two_digits, four_digits}
-use Rattle.moments.proofs.Civil.{civil_from, year_low}
-use Rattle.moments.proofs.Texts.{date_digits}
+use Rattle.moments.proofs.{Civil.civil_from, Civil.year_low, Texts.date_digits}
 
 -- a number below 100 in two digits
 two_digits-pad2 : (n : ℕ) → n < 100 → pad2 n ≡ two_digits n
@@ -16,22 +14,15 @@ two_digits-pad2 n low = let tens : n / 10 ≡ n / 10 % 10 = omega arith in ap (�
 
 -- a number below 10000 in four digits
 four_digits-pad4 : (n : ℕ) → n < 10000 → pad4 n ≡ four_digits n
-four_digits-pad4 n low =
-    let thousands : n / 100 / 10 ≡ n / 1000 % 10 = omega arith in
-    let tens : n % 100 / 10 ≡ n / 10 % 10 = omega arith in
-    let ones : n % 100 % 10 ≡ n % 10 = omega arith in
-    rw (thousands, tens, ones) refl
+four_digits-pad4 n low = grind (arith, nat_tests)
 
 -- a year that is no earlier than 1970 is written without a sign
 year_written : (z : ℤ) → pos 1970 ≤ℤ z → (y : ℕ) × (pos y ≡ z) × (year_text z ≡ pad4 y)
-year_written (pos y) low = (y, refl, refl)
-year_written (negsuc n) low = absurd (omega (arith, signed_arith))
+year_written z h = grind (arith, nat_tests)
 
 -- a datetime that is a whole second has no fraction
 fraction_of : (d : DateTime) (t : ℕ) → civil_nanos d ≡ pos t *ℤ pos 1_000_000_000 → fraction_part None d.time.subsec_nanosecond ≡ []
-fraction_of d t e =
-    let none : d.time.subsec_nanosecond ≡ 0 = omega (arith, signed_arith, civil_nanos-parts d, time_nanos_bound d.time) in
-    ap (fraction_part None) none
+fraction_of d t e = grind (arith, nat_tests, signed_arith, civil_nanos-parts, time_nanos_bound)
 
 -- the text of these parts, with the mark of UTC
 abbrev text_of_parts : (year month day hour minute second fraction : List ℕ) → List ℕ

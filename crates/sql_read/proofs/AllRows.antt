@@ -1,5 +1,5 @@
 -- What a book's rows are to the checks of its tables, behind those before them.
-use Rattle.std.proofs.Common.{◌≡◌, ℕ, List, [], ◌∷◌, map, refl, sym, ap, subst₂, ◌∙◌}
+use Rattle.std.proofs.Common.{◌≡◌, ℕ, List, [], ◌∷◌, map, refl, sym, subst₂, rules}
 use Rattle.store_columns.specs.declared.columns.FlatRows.{FlatRows}
 use Rattle.model_laws.proofs.RowLists.{ascends_map}
 use Rattle.desk_model.specs.declared.rows.{AccountRow.AccountRow, AuthorizationRow.AuthorizationRow, Counters.Counters, Meta.Meta, OrderRow.OrderRow}
@@ -8,9 +8,7 @@ use Rattle.store_book.specs.{ByKey.AreByKey, Passing.ArePlaced, Passing.IsOnlyRo
 
 -- the counters that were kept of the one row are the book's
 pub counters_kept : (kept : Counters) (rows : List Meta) (meta : Meta) → IsOnlyRow kept rows → rows ≡ meta ∷ [] → kept ≡ meta.counters
-counters_kept kept rows meta is are =
-    let same : is.meta ≡ meta = (let both = sym is.alone ∙ are in cc) in
-    is.counters ∙ ap (λ m. m.counters) same
+counters_kept kept rows meta is are = search rules
 
 module _ {meta : Meta} {rows : FlatRows} (are : AreBookRows meta rows) where
   -- the numbers of accounts rise, and so on

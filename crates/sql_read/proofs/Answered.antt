@@ -1,31 +1,24 @@
 -- What a query of one table answers: its rows that pass tests, in the order of a number.
-use Rattle.std.proofs.Common.{◌≡◌, ℕ, ◌<◌, ◌+◌, pos, negsuc, ◌++◌, if◌then◌else◌, Bool, true, false, cond, List, [], ◌∷◌, map}
-use Rattle.std.proofs.Common.{length, filter, flat_map, Option, None, Some, Ordering, Less, Equal, Result, Ok, Err, refl, sym, ap, subst, ◌∙◌, arith, inl, inr}
-use Rattle.std.specs.List.{AllByRecursion, list_all}
+use Rattle.std.proofs.Common.{◌≡◌, ℕ, ◌<◌, ◌+◌, pos, negsuc, if◌then◌else◌, Bool, true, false, cond, List, [], ◌∷◌, map, length, filter, flat_map, Option, None}
+use Rattle.std.proofs.Common.{Some, Ordering, Less, Equal, Result, Ok, Err, refl, sym, ap, subst, ◌∙◌, arith, rules}
+use Rattle.std.proofs.{lemmas.List.Sorted.IsPermutation-map, lemmas.List.Sorted.IsPermutation-sym, lemmas.List.Sorted.IsPermutation-trans, lemmas.Simd.map-map}
 use Rattle.std.specs.List.Sorted.{IsPermutation, IsSorted, IsStrictlySortedBy}
-use Rattle.std.specs.Ordering.{ordering_then}
-use Rattle.std.proofs.lemmas.List.Sorted.{IsPermutation-map, IsPermutation-sym, IsPermutation-trans}
-use Rattle.std.proofs.lemmas.Simd.{map-map}
-use Rattle.sqlite.specs.declared.types.Value.TheVariants.{Null, Int}
-use Rattle.sqlite_value.specs.declared.keys.{Collation.TheVariants.Binary, Key.Key}
-use Rattle.sqlite_value.specs.Order.{Row}
+use Rattle.std.specs.{List.AllByRecursion, List.list_all, Ordering.ordering_then}
+use Rattle.sqlite.specs.{declared.types.Value.TheVariants.Null, declared.types.Value.TheVariants.Int, Listing.understood, Listing.reads_listing, State.State}
+use Rattle.sqlite.specs.{State.Shown, Schema.Schema}
+use Rattle.sqlite_value.specs.{declared.keys.Collation.TheVariants.Binary, declared.keys.Key.Key, Order.Row}
 use Rattle.sqlite_value.proofs.OrderLemmas.{value_cmp-Int}
 use Rattle.sqlite_trees.specs.Tree.{Trees}
-use Rattle.sqlite_sql.specs.Term.{Term, Env, lit, col, eval, holds}
 use Rattle.sqlite_sql.specs.Query.{Join, Query, Output, inner, end, IsAnswer, as_count, limited, matches, output, output_cmp}
-use Rattle.sqlite_sql.specs.Program.{overlay}
+use Rattle.sqlite_sql.specs.{Term.Term, Term.lit, Term.col, Term.eval, Term.holds, Program.overlay}
 use Rattle.sqlite_sql.proofs.QueryLemmas.{output_cmp_total}
 use Rattle.sqlite_schema.specs.declared.command.{Command.Command, Command.TheVariants.Select, Returning.Returning}
-use Rattle.sqlite_resolve.specs.Compile.{compiled}
-use Rattle.sqlite_resolve.specs.declared.{compiled.Compiled.Compiled, error.CompileError.CompileError}
+use Rattle.sqlite_resolve.specs.{Compile.compiled, declared.compiled.Compiled.Compiled, declared.error.CompileError.CompileError}
 use Rattle.sqlite_typing.specs.Types.{accepts_program}
-use Rattle.sqlite.specs.Listing.{understood, misses_table, reads_listing}
-use Rattle.sqlite.specs.State.{State, Shown}
 use Rattle.sqlite.proofs.Callers.{IsPlain, command_of, reads_as}
 use Rattle.store_book.proofs.SortedLists.{same_sorted}
 use Rattle.model_laws.specs.Ordered.{Ascends}
-use Rattle.sqlite.specs.Schema.{Schema}
-use Rattle.sql_tables.proofs.Keyed.{ranked, three}
+use Rattle.sql_tables.proofs.Keyed.{three}
 use Rattle.sql_read.specs.Selecting.{IsQuery}
 
 -- ---- queries of one table
@@ -74,10 +67,6 @@ abbrev pub made_of : Result Compiled CompileError → Option Made
 made_of (Ok c) = Some (c.command, c.returning, c.formats)
 made_of (Err e) = None
 
--- where two such are the same, each there, so is what they hold
-some_same : (a b : Made) → Some a ≡ Some b → a ≡ b
-some_same a b same = cc same
-
 -- a text that was compiled to a command alone
 pub record IsCommand (schema : Schema) (text : List ℕ) (command : Command) : Type 0 where
   pub is : command_of (understood schema text) ≡ command
@@ -88,19 +77,7 @@ pub record IsCommand (schema : Schema) (text : List ℕ) (command : Command) : T
 pub compiled_alone : {schema : Schema} (text : List ℕ) (command : Command) → made_of (compiled schema text) ≡ Some (command, None, [])
     → IsCommand schema text command
 unfolding understood
-compiled_alone {schema} text command means = go (compiled schema text) refl means
-  where
-    go : (r : Result Compiled CompileError) → compiled schema text ≡ r → made_of r ≡ Some (command, None, []) → IsCommand schema text command
-    go (Ok c) is made =
-        let unlisted : reads_listing schema text ≡ false = ap misses_table is in
-        let known : understood schema text ≡ Ok c = rw unlisted is in
-        let same = some_same (c.command, c.returning, c.formats) (command, None, []) made in
-        record {
-          is = ap command_of known ∙ ap (λ (m : Made). m.0) same;
-          plain = subst IsPlain (sym known) (ap (λ (m : Made). m.1) same, ap (λ (m : Made). m.2) same);
-          unlisted = unlisted;
-        }
-    go (Err e) is made = absurd (let x = made in cc)
+compiled_alone {schema} text command means = grind arith
 
 -- how long the statement is that was understood
 abbrev pub tail_of : Result Compiled CompileError → ℕ
@@ -140,13 +117,7 @@ left : (tests : List Term) (params : Row) (rs : List Row)
     → flat_map (λ r. if list_all (holds (params ∷ r ∷ [])) tests then (params ∷ r ∷ []) ∷ [] else []) rs
     ≡ map (λ r. params ∷ r ∷ []) (filter (passes tests params) rs)
 left tests params [] = refl
-left tests params (r ∷ rs) = go (passes tests params r) (left tests params rs)
-  where
-    go : (b : Bool) {rest : List Env} → rest ≡ map (λ r. params ∷ r ∷ []) (filter (passes tests params) rs)
-        → (if b then (params ∷ r ∷ []) ∷ [] else []) ++ rest
-        ≡ map (λ r. params ∷ r ∷ []) (cond b (r ∷ filter (passes tests params) rs) (filter (passes tests params) rs))
-    go true more = ap (λ es. (params ∷ r ∷ []) ∷ es) more
-    go false more = more
+left tests params (r ∷ rs) = grind (arith, (left tests params rs))
 
 -- an answer before it is cut to what is shown: in this order, and in no other
 pub record IsOrderedAs (q : Query) (outputs : List Output) (rows : List Row) : Type 0 where
@@ -232,11 +203,7 @@ shown_somehow q shown ys rows a =
 
 -- SQL orders numbers as the model does
 pub less : (a b : ℕ) → a < b → three a b ≡ Less
-less a b low = elim (ranked a b) [
-  | inl below ↦ below.ranks
-  | inr (inl tied) ↦ absurd (omega (arith, low, tied.same))
-  | inr (inr more) ↦ absurd (omega (arith, low, more.high))
-]
+less a b low = search rules
 
 -- what holds of each item of a map
 all_map : {X Y : Type 0} (P : Y → Type 0) (f : X → Y) (xs : List X) → AllByRecursion (λ x. P (f x)) xs → AllByRecursion P (map f xs)

@@ -1,16 +1,14 @@
 -- Rows beside those that they belong to: each beside the one of the number that it tells.
 use Rattle.std.proofs.Common.{◌≡◌, ◌++◌, ◌+◌, ◌<◌, ℕ, Bool, true, false, cond, List, [], ◌∷◌, map, filter, flat_map, find, IsSome, Some}
 use Rattle.std.proofs.Common.{refl, sym, ap, subst, ◌∙◌, arith}
-use Rattle.std.specs.Prelude.{◌==◌}
 use Rattle.std.proofs.lemmas.Bool.{eq-eqb, eqb-true}
-use Rattle.store_columns.specs.Flat.{answer_key, bare_row, challenge_rows, owned_by, without_challenges}
-use Rattle.store_columns.specs.declared.columns.Owned.{Owned}
+use Rattle.std.specs.Prelude.{◌==◌}
+use Rattle.store_columns.specs.{Flat.answer_key, Flat.bare_row, Flat.challenge_rows, Flat.owned_by, Flat.without_challenges, declared.columns.Owned.Owned}
 use Rattle.store_book.specs.Nesting.{child_rows}
 use Rattle.model_laws.specs.Ordered.{Ascends}
 use Rattle.model_laws.proofs.Basics.{each, each-append, each-map, each_all, each_both, less_differs, more_differs}
 use Rattle.model_laws.proofs.{Keeps.each-filter, RowLists.ascends_above}
-use Rattle.desk_model.specs.Kept.{EachOf}
-use Rattle.desk_model.specs.declared.rows.{AuthorizationRow.AuthorizationRow, ChallengeRow.ChallengeRow}
+use Rattle.desk_model.specs.{Kept.EachOf, declared.rows.AuthorizationRow.AuthorizationRow, declared.rows.ChallengeRow.ChallengeRow}
 use Rattle.sql_read.proofs.JoinParts.{Joined}
 
 -- ---- pairs

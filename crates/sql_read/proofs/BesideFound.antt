@@ -1,39 +1,27 @@
 -- What the look-up of an authorization by one of its challenges finds: all its challenges, each beside it.
-use Rattle.std.proofs.Common.{◌≡◌, ◌≢◌, ◌==◌, ℕ, Bool, true, List, [], ◌∷◌, cond, map, filter, flat_map, inl, inr, refl, subst, sym, ap, ◌∙◌, append-nil}
-use Rattle.std.proofs.lemmas.Bool.{eq-eqb}
-use Rattle.std.proofs.lemmas.Simd.{map-map}
-use Rattle.sqlite.specs.Held.{Held, state}
-use Rattle.sqlite.specs.Store.{Ghosts}
+use Rattle.std.proofs.Common.{◌≡◌, ◌≢◌, ◌==◌, ℕ, Bool, true, List, [], ◌∷◌, cond, map, filter, flat_map, inl, inr, refl, subst, sym, ap, ◌∙◌, append-nil, arith}
+use Rattle.std.proofs.{lemmas.Bool.eq-eqb, lemmas.Simd.map-map}
+use Rattle.sqlite.specs.{Held.Held, Held.state, Store.Ghosts}
 use Rattle.store_columns.specs.Flat.{answer_key, bare, challenge_rows, without_challenges}
-use Rattle.store_columns.specs.Limits.{IsStoredAuthorization}
 use Rattle.store_columns.specs.TextColumns.{HasTextAuthorization, HasTextChallenge}
-use Rattle.store_columns.specs.declared.columns.{JoinedChallenge.JoinedChallenge, Owned.Owned}
-use Rattle.model_laws.proofs.Basics.{each, each_all, each_of_map, map-each}
-use Rattle.model_laws.proofs.Keeps.{each-filter}
+use Rattle.store_columns.specs.{Limits.IsStoredAuthorization, declared.columns.JoinedChallenge.JoinedChallenge, declared.columns.Owned.Owned}
+use Rattle.model_laws.proofs.{Basics.each, Basics.each_all, Basics.each_of_map, Basics.map-each, Keeps.each-filter}
 use Rattle.model_lives.specs.LookUps.{authorizations_numbered, owners_of}
-use Rattle.desk_model.specs.{Kept.EachOf, Tables.Tables}
-use Rattle.desk_model.specs.declared.rows.{AuthorizationRow.AuthorizationRow, ChallengeRow.ChallengeRow}
+use Rattle.desk_model.specs.{Kept.EachOf, Tables.Tables, declared.rows.AuthorizationRow.AuthorizationRow, declared.rows.ChallengeRow.ChallengeRow}
 use Rattle.store_book.specs.IsBook.{IsStoredBook}
 use Rattle.sql_schema.specs.declared.challenges.TheConstants as chall
-use Rattle.sql_tables.specs.Holds.{Holds}
-use Rattle.sql_tables.specs.Layouts.{challenge_layout}
+use Rattle.sql_tables.specs.{Holds.Holds, Layouts.challenge_layout}
 use Rattle.sql_tables.proofs.Sorting.{each_sorted, filter_ascending, filter_number, sorted_rises}
-use Rattle.sql_read.specs.{Joined.gathered, Joined.joined_row, Joined.keyed_row, Looking.Finds, Queries.number, Under.HasItsChallenges}
-use Rattle.sql_read.specs.Spelled.{FitsJoined, joined_in}
-use Rattle.sql_read.specs.declared.formats.Format.TheVariants.{Second}
-use Rattle.sql_read.proofs.Answered.{all_rows}
-use Rattle.sql_read.proofs.Beside.{IsOwned, Pair, owners_there, parts}
+use Rattle.sql_read.specs.{Joined.gathered, Joined.joined_row, Joined.keyed_row, Looking.Finds, Queries.number, Under.HasItsChallenges, Spelled.FitsJoined}
+use Rattle.sql_read.specs.{Spelled.joined_in, declared.formats.Format.TheVariants.Second}
+use Rattle.sql_read.proofs.Beside.{IsOwned, owners_there, parts}
 use Rattle.sql_read.proofs.BesideRows.{IsAsked, companions, companions_shown, each_companion, one_asked}
-use Rattle.sql_read.proofs.{Failing.join_fails, FoundRows.finds_shown}
-use Rattle.sql_read.proofs.JoinFound.{waiting_of}
-use Rattle.sql_read.proofs.JoinParts.{HasTextJoined, IsStoredJoined, IsStoredKeyed, beside_from, beside_project, beside_tests, by_other}
-use Rattle.sql_read.proofs.JoinParts.{joined-apart, joined_back, joined_columns, joined_fits, joined_params}
-use Rattle.sql_read.proofs.KeptRows.{authorizations_kept}
+use Rattle.sql_read.proofs.JoinParts.{HasTextJoined, IsStoredJoined, IsStoredKeyed, beside_from, beside_project, beside_tests, by_other, joined-apart}
+use Rattle.sql_read.proofs.JoinParts.{joined_back, joined_columns, joined_fits, joined_params}
 use Rattle.sql_read.proofs.KeyedFound.{all_challenges, all_keys, challenges_there, keyed_stored, keyed_texts}
-use Rattle.sql_read.proofs.LookUpReadings.{beside_reading}
-use Rattle.sql_read.proofs.TableFacts.{authorization_facts, challenge_facts, columns}
-use Rattle.sql_read.proofs.UnderLemmas.{authorizations_have, own_ascend, owners_are}
-use Rattle.sql_read.proofs.WaitingChallenges.{filter_turned}
+use Rattle.sql_read.proofs.{Answered.all_rows, Failing.join_fails, FoundRows.finds_shown, JoinFound.waiting_of, KeptRows.authorizations_kept}
+use Rattle.sql_read.proofs.{LookUpReadings.beside_reading, TableFacts.authorization_facts, TableFacts.challenge_facts, TableFacts.columns}
+use Rattle.sql_read.proofs.{UnderLemmas.authorizations_have, UnderLemmas.own_ascend, UnderLemmas.owners_are, WaitingChallenges.filter_turned}
 
 -- the challenges of the authorization that has the one of a number, each beside it
 abbrev pub beside_rows : Tables → ℕ → List JoinedChallenge
@@ -43,12 +31,7 @@ beside_rows T n = map waiting_of (companions (all_challenges T) T.authorizations
 gathered_one : (a : AuthorizationRow) (cs : List (Owned ChallengeRow)) → cs ≢ []
     → gathered (map waiting_of (map (λ c. (c, a)) cs)) ≡ record a { challenges = map (λ c. c.row) cs } ∷ []
 gathered_one a [] some = absurd (some refl)
-gathered_one a (c ∷ cs) some =
-    λ i. record a {
-      challenges =
-          c.row ∷ (map-map (λ (w : JoinedChallenge). w.challenge) waiting_of (map (λ (c : Owned ChallengeRow). (c, a)) cs)
-          ∙ map-map (λ (x : Pair). x.0.row) (λ c. (c, a)) cs) i;
-    } ∷ []
+gathered_one a (c ∷ cs) some = grind (arith, map-map)
 
 -- one item that passes another test is left by it
 some_left : {X : Type 0} (p q : X → Bool) (xs : List X) (x : X) → filter p xs ≡ x ∷ [] → q x ≡ true → filter q xs ≢ []

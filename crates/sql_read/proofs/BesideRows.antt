@@ -1,39 +1,27 @@
 -- What the join shows that begins with one challenge: all challenges of its authorization, each beside it, and beside the key of its answer.
-use Rattle.std.proofs.Common.{◌≡◌, ◌++◌, ◌&&◌, ◌==◌, ◌⊎◌, ℕ, pos, cond, List, [], ◌∷◌, map, filter, flat_map, inl, inr}
-use Rattle.std.proofs.Common.{refl, sym, ap, subst, ◌∙◌, append-nil}
+use Rattle.std.proofs.Common.{◌≡◌, ◌&&◌, ◌==◌, ◌⊎◌, ℕ, pos, cond, List, [], ◌∷◌, map, filter, flat_map, inl, inr, refl, sym, ap, subst, ◌∙◌, append-nil, arith}
+use Rattle.std.proofs.Common.{rules}
+use Rattle.std.proofs.{lemmas.Bool.eqb-true, lemmas.Simd.map-map}
 use Rattle.std.specs.{List.list_all, Ordering.is_eq}
-use Rattle.std.proofs.lemmas.Bool.{eqb-true}
-use Rattle.std.proofs.{lemmas.Simd.map-map}
-use Rattle.sqlite.specs.declared.types.Value.TheVariants.{Int}
-use Rattle.sqlite.specs.State.{State, Shown}
+use Rattle.sqlite.specs.{declared.types.Value.TheVariants.Int, State.State, State.Shown}
 use Rattle.sqlite_value.specs.Order.{Row}
 use Rattle.sqlite_trees.specs.Tree.{Trees}
 use Rattle.sqlite_trees.proofs.ListLemmas.{map-flat_map}
-use Rattle.sqlite_sql.specs.Program.{overlay}
-use Rattle.sqlite_sql.specs.Query.{Output, end, inner, left, matches, output}
-use Rattle.sqlite_sql.specs.Term.{Env, holds}
-use Rattle.store_columns.specs.Columns.{authorization_columns, challenge_columns}
-use Rattle.store_columns.specs.Flat.{answer_key, bare_row, without_challenges}
-use Rattle.store_columns.specs.declared.columns.{AnswerKey.AnswerKey, Owned.Owned}
+use Rattle.sqlite_sql.specs.{Program.overlay, Query.Output, Query.end, Query.inner, Query.left, Query.matches, Query.output, Term.Env, Term.holds}
+use Rattle.store_columns.specs.{Flat.answer_key, declared.columns.AnswerKey.AnswerKey, declared.columns.Owned.Owned}
 use Rattle.model_laws.specs.Ordered.{Ascends}
-use Rattle.model_laws.proofs.Basics.{each, each-map, each_all, each_both}
-use Rattle.model_laws.proofs.{Keeps.each-filter, RowLists.ascends_filter, RowLists.ascends_map}
-use Rattle.desk_model.specs.Kept.{EachOf}
-use Rattle.desk_model.specs.declared.rows.{AuthorizationRow.AuthorizationRow, ChallengeRow.ChallengeRow}
+use Rattle.model_laws.proofs.{Basics.each, Basics.each-map, Basics.each_all, Basics.each_both, Keeps.each-filter, RowLists.ascends_filter, RowLists.ascends_map}
+use Rattle.desk_model.specs.{Kept.EachOf, declared.rows.AuthorizationRow.AuthorizationRow, declared.rows.ChallengeRow.ChallengeRow}
 use Rattle.sql_schema.specs.Schema.{desk_schema}
 use Rattle.sql_schema.specs.declared.challenges.TheConstants as chall
-use Rattle.sql_tables.specs.Images.{authorization_image, authorization_params, challenge_image, challenge_params}
-use Rattle.sql_tables.specs.Layouts.{challenge_layout}
+use Rattle.sql_tables.specs.{Images.authorization_image, Images.challenge_image, Layouts.challenge_layout}
 use Rattle.sql_tables.proofs.Keyed.{one_or_none, three}
 use Rattle.sql_read.specs.{Bounded.bounded, Queries.number}
 use Rattle.sql_read.proofs.Answered.{all_rows, answers_from, picked_from, shown_in_order, strictly}
-use Rattle.sql_read.proofs.Beside.{IsOwned, Pair, parts}
 use Rattle.sql_read.proofs.JoinParts.{beside_from, beside_project, beside_tests, by_other, joined_columns, joined_params, on_key}
-use Rattle.sql_read.proofs.KeyedRows.{HasChallenges, HasOwnKey, key_cells, key_shows, with_key}
-use Rattle.sql_read.proofs.Lists.{as_it_is, each_flat, each_passing}
-use Rattle.sql_read.proofs.LookUpReadings.{beside_reading}
-use Rattle.sql_read.proofs.SideBySide.{each_joined, each_spread, test_first, tests_first}
-use Rattle.sql_read.proofs.Tests.{eq_as, is_number, number_test, same_bounded}
+use Rattle.sql_read.proofs.{Beside.IsOwned, Beside.Pair, Beside.parts, KeyedRows.HasChallenges, KeyedRows.HasOwnKey, KeyedRows.key_cells, KeyedRows.with_key}
+use Rattle.sql_read.proofs.{Lists.as_it_is, Lists.each_flat, Lists.each_passing, LookUpReadings.beside_reading, SideBySide.each_joined, SideBySide.each_spread}
+use Rattle.sql_read.proofs.{SideBySide.test_first, SideBySide.tests_first, Tests.eq_as, Tests.is_number, Tests.number_test, Tests.same_bounded}
 
 -- ---- the challenges of the authorization that has the one of a number
 
@@ -134,8 +122,7 @@ filled params b x = params ∷ challenge_image b ∷ authorization_image x.1 ∷
 passes_as : (n : ℕ) (b : Owned ChallengeRow) (x : Pair) → (b.row.number == bounded n) ≡ (b.row.number == n) → (key : Row)
     → list_all (holds (number n ∷ challenge_image b ∷ authorization_image x.1 ∷ challenge_image x.0 ∷ key ∷ [])) beside_tests
     ≡ ((x.1.number == b.owner) && ((x.0.owner == x.1.number) && (b.row.number == n)))
-passes_as n b x same key =
-    λ i. is_number x.1.number b.owner i && (is_number x.0.owner x.1.number i && (number_test b.row.number (bounded n) ∙ same) i)
+passes_as n b x same key = search (rules, is_number)
 
 module _ (db : Trees) (cs : List (Owned ChallengeRow)) (keys : List AnswerKey) (there : HasChallenges db cs keys) (rows : List AuthorizationRow)
     (rows_are : db 5 ≡ map authorization_image rows) (n : ℕ) where
@@ -181,12 +168,7 @@ shown x = (Int (pos x.0.row.number) ∷ [], joined_params (joined_columns (parts
 -- as the statement shows it
 shows : (n : ℕ) (b : Owned ChallengeRow) (x : Pair)
     → output (picked_from all_rows beside_from beside_tests beside_project by_other) (filled (number n) b x) ≡ shown x
-shows n b x =
-    λ i. (
-      Int (pos x.0.row.number) ∷ [],
-      challenge_params (challenge_columns (bare_row x.0))
-          ++ (authorization_params (authorization_columns (without_challenges x.1)) ++ key_shows (answer_key x.0.row) i),
-    )
+shows n b x = grind arith
 
 -- the challenges of the authorization are shown, by number
 pub companions_shown : (old new : State) (cs : List (Owned ChallengeRow)) (rows : List AuthorizationRow) (keys : List AnswerKey) (n : ℕ) (given : List Row)

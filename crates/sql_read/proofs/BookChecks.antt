@@ -2,21 +2,14 @@
 use Rattle.std.proofs.Common.{◌≡◌, inl, inr, ℕ, List, Bool, true, false, Result, Ok, Err, IfOk, IsErrAnd, sym, subst, ◌∙◌, arith}
 use Rattle.std.proofs.lemmas.Result.{IfOk-from_err}
 use Rattle.std.specs.Prelude.{◌⊎◌, IsErr, IsTrue}
-use Rattle.sqlite.specs.{Effect.Database, Order.Row, Store.Ghosts}
-use Rattle.sqlite.specs.Held.{Held, state}
-use Rattle.sqlite.specs.State.{HasCleanDisk, IsUnchanged}
-use Rattle.sqlite.specs.declared.error.Error.{Error}
+use Rattle.sqlite.specs.{Effect.Database, Order.Row, Store.Ghosts, Held.Held, Held.state, State.HasCleanDisk, State.IsUnchanged, declared.error.Error.Error}
 use Rattle.store_columns.specs.declared.columns.FlatRows.{FlatRows}
-use Rattle.desk_model.specs.Tables.{Tables}
-use Rattle.desk_model.specs.declared.rows.Meta.{Meta}
-use Rattle.sql_read.specs.AllTables.{FailsAtFirst, FailsAtTable}
+use Rattle.desk_model.specs.{Tables.Tables, declared.rows.Meta.Meta}
 use Rattle.sql_read.specs.BookShown.{Checks, FailsIn, HoldsIn}
-use Rattle.sql_read.specs.{Checking.ShowsTable, Only.ShowsBookRowsOnly}
 use Rattle.sql_read.specs.Failures.{FailsHere, HasTexts, IsMet, IsOutOfMemory, IsReadable, MayRead}
-use Rattle.sql_read.specs.declared.formats.Format.{Format}
-use Rattle.sql_read.specs.declared.formats.Format.TheVariants.{First, Second}
-use Rattle.sql_read.proofs.{Failing.may_read_still, MetFaults.met_behind}
-use Rattle.sql_read.proofs.Results.{failed_as, fails_then, unchanged_after}
+use Rattle.sql_read.specs.{AllTables.FailsAtFirst, AllTables.FailsAtTable, Checking.ShowsTable, Only.ShowsBookRowsOnly, declared.formats.Format.Format}
+use Rattle.sql_read.specs.{declared.formats.Format.TheVariants.First, declared.formats.Format.TheVariants.Second}
+use Rattle.sql_read.proofs.{Failing.may_read_still, MetFaults.met_behind, Results.failed_as, Results.fails_then, Results.unchanged_after}
 use Rattle.sql_schema.specs.{Failing.IsFailure, Stays.Asks}
 use Rattle.sql_schema.proofs.StaysLemmas.{asks_then}
 

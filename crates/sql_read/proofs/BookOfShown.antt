@@ -1,26 +1,19 @@
 -- What checked tables showed is a book's.
-use Rattle.std.proofs.Common.{◌≡◌, ℕ, pos, List, [], ◌∷◌, Option, Some, None, map, refl, sym, ap, subst}
-use Rattle.std.specs.List.{cons_option}
+use Rattle.std.proofs.Common.{◌≡◌, List, [], ◌∷◌, Option, map, refl, sym, subst, arith}
 use Rattle.std.specs.Prelude.{filter_map, option_map}
-use Rattle.sqlite.specs.Held.{Held, state}
-use Rattle.sqlite.specs.Store.{Ghosts}
+use Rattle.sqlite.specs.{Held.Held, Held.state, Store.Ghosts}
 use Rattle.store_book.specs.BookRows.{AreAccounts, AreAuthorizations, AreBookRows, AreChallenges, AreKeys, AreOrders, answered_numbers}
+use Rattle.store_book.specs.IsBook.{IsBookOfStored}
 use Rattle.store_book.proofs.InOrder.{rows_are_books}
 use Rattle.store_columns.specs.Columns.{challenge_columns, key_columns, meta_columns, rows_columns}
 use Rattle.store_columns.specs.Limits.{AreStored, IsStoredChallenge, IsStoredKey, IsStoredMeta}
-use Rattle.store_columns.specs.declared.{columns.StoredRows.StoredRows, columns.AnswerKey.AnswerKey, columns.BareChallenge.BareChallenge}
-use Rattle.store_columns.specs.declared.{columns.FlatRows.FlatRows, columns.Owned.Owned}
+use Rattle.store_columns.specs.declared.columns.{StoredRows.StoredRows, AnswerKey.AnswerKey, BareChallenge.BareChallenge, FlatRows.FlatRows, Owned.Owned}
 use Rattle.model_laws.specs.Ordered.{IsTable}
-use Rattle.desk_model.specs.{Kept.EachOf, Tables.Tables}
-use Rattle.desk_model.specs.declared.rows.{Counters.Counters, Meta.Meta}
-use Rattle.sql_read.specs.BookShown.{ShowsBookRows, ShowsNonces}
+use Rattle.desk_model.specs.{Kept.EachOf, Tables.Tables, declared.rows.Counters.Counters, declared.rows.Meta.Meta}
 use Rattle.sql_read.specs.First.{AreFirstShown, ShowsFirstMeta, blank_key, zeros}
-use Rattle.sql_read.specs.Shown.{AreShown, IsShown}
-use Rattle.sql_read.specs.Spelled.{meta_in}
-use Rattle.sql_read.specs.declared.formats.Format.{Format}
-use Rattle.sql_read.specs.declared.formats.Format.TheVariants.{First, Second}
+use Rattle.sql_read.specs.{BookShown.ShowsBookRows, BookShown.ShowsNonces, Shown.AreShown, Shown.IsShown, Spelled.meta_in, declared.formats.Format.Format}
+use Rattle.sql_read.specs.{declared.formats.Format.TheVariants.First, declared.formats.Format.TheVariants.Second}
 use Rattle.sql_schema.specs.declared.meta.TheConstants as text
-use Rattle.store_book.specs.IsBook.{IsBookOfStored}
 
 -- ---- the rows of either format
 
@@ -128,35 +121,17 @@ blanks cs = filter_map blank_of cs
 -- there is one for each challenge that was answered
 blanks_answer : (cs : List (Owned BareChallenge)) → AreKeys (answered_numbers cs) (blanks cs)
 blanks_answer [] = refl
-blanks_answer (c ∷ cs) = by c.row.answered (blanks_answer cs)
-  where
-    by : {D : Type 0} (o : Option D) → AreKeys (answered_numbers cs) (blanks cs)
-        → AreKeys (cons_option (option_map (λ _. c.row.number) o) (answered_numbers cs))
-        (cons_option (option_map (λ _. record { challenge = c.row.number; thumb = zeros }) o) (blanks cs))
-    by None rest = rest
-    by (Some date) rest = ap (λ ns. c.row.number ∷ ns) rest
+blanks_answer (c ∷ cs) = grind (arith, (blanks_answer cs))
 
 -- they are in their limits
 blanks_stored : (cs : List (Owned BareChallenge)) → EachOf IsStoredChallenge cs → EachOf IsStoredKey (blanks cs)
 blanks_stored [] each = tt
-blanks_stored (c ∷ cs) each = by c.row.answered (blanks_stored cs each.1)
-  where
-    by : {D : Type 0} (o : Option D) → EachOf IsStoredKey (blanks cs)
-        → EachOf IsStoredKey (cons_option (option_map (λ _. record { challenge = c.row.number; thumb = zeros }) o) (blanks cs))
-    by None rest = rest
-    by (Some date) rest = (record { challenge = each.0.number; thumb = refl }, rest)
+blanks_stored (c ∷ cs) each = grind (arith, (blanks_stored cs each.1))
 
 -- and their columns are those of challenges
 blanks_spelled : (cs : List (Owned BareChallenge)) → map key_columns (blanks cs) ≡ filter_map blank_key (map challenge_columns cs)
 blanks_spelled [] = refl
-blanks_spelled (c ∷ cs) = by c.row.answered (blanks_spelled cs)
-  where
-    by : (o : Option ℕ) → map key_columns (blanks cs) ≡ filter_map blank_key (map challenge_columns cs)
-        → map key_columns (cons_option (option_map (λ _. record { challenge = c.row.number; thumb = zeros }) o) (blanks cs))
-        ≡ cons_option (option_map (λ _. record { chall = pos c.row.number; thumb = zeros }) (option_map pos o))
-        (filter_map blank_key (map challenge_columns cs))
-    by None rest = rest
-    by (Some date) rest = ap (λ ks. record { chall = pos c.row.number; thumb = zeros } ∷ ks) rest
+blanks_spelled (c ∷ cs) = grind (arith, (blanks_spelled cs))
 
 module _ {S : Type 0} (g : Ghosts S) (conn : Held S) (meta : Meta) (shown : ShowsFirstMeta g conn meta)
     (shows : ShowsNonces g (state g conn).now First meta.counters) where

@@ -1,50 +1,36 @@
 -- The moment that is shown first is the earliest of the table's rows.
-use Rattle.std.proofs.Common.{◌≡◌, ◌≤◌, ◌||◌, ℕ, pos, Bool, true, false, List, [], ◌∷◌, map, filter, Option, None, Some, Ordering, Less, Equal, Greater}
-use Rattle.std.proofs.Common.{refl, sym, ap, subst, ◌∙◌, arith, zero-le}
-use Rattle.std.specs.Prelude.{◌==◌, nat_lt, option_map, Result, Ok, Err, IfErr, IfOk, IsErrAnd}
-use Rattle.std.specs.List.{All, AllByRecursion, list_any}
-use Rattle.std.specs.List.Sorted.{IsPermutation, IsSorted}
-use Rattle.std.specs.Ordering.{is_eq, is_lt, ordering_then}
-use Rattle.std.proofs.lemmas.{Bool.eq-eqb, Bool.Decides.nat_tests, List.map-id, List.Elements.recursion_from_All, Option.same_Some, Simd.map-map}
+use Rattle.std.proofs.Common.{◌≡◌, ◌≤◌, ◌||◌, ℕ, pos, Bool, true, false, List, [], ◌∷◌, map, filter, Option, None, Some, Ordering, Equal, refl, sym, ap, subst}
+use Rattle.std.proofs.Common.{◌∙◌, arith, zero-le, rules}
 use Rattle.std.proofs.lemmas.List.Sorted.{IsPermutation-sym, list_any-IsPermutation, ranks_by, sorted_far}
-use Rattle.sqlite.specs.declared.types.Value.TheVariants.{Int}
-use Rattle.sqlite.specs.Held.{Held, state}
+use Rattle.std.proofs.{lemmas.Bool.eq-eqb, lemmas.Bool.Decides.nat_tests, lemmas.List.map-id, lemmas.List.Elements.recursion_from_All, lemmas.Simd.map-map}
+use Rattle.std.specs.Prelude.{◌==◌, nat_lt, option_map, Result, Ok, Err, IfErr, IfOk, IsErrAnd}
+use Rattle.std.specs.{List.All, List.AllByRecursion, List.list_any, List.Sorted.IsPermutation, List.Sorted.IsSorted, Ordering.is_eq, Ordering.is_lt}
+use Rattle.std.specs.{Ordering.ordering_then}
 use Rattle.sqlite.specs.State.{State, FailsToQuery, HasCleanDisk, IsUnchanged, Shown}
-use Rattle.sqlite.specs.declared.error.Error.{Error}
-use Rattle.sqlite.specs.Store.{Ghosts}
+use Rattle.sqlite.specs.{declared.types.Value.TheVariants.Int, Held.Held, Held.state, declared.error.Error.Error, Store.Ghosts}
 use Rattle.sqlite_value.specs.Order.{Row}
 use Rattle.sqlite_value.proofs.OrderLemmas.{value_cmp-Int}
 use Rattle.sqlite_trees.specs.Tree.{Trees}
 use Rattle.sqlite_trees.proofs.ListLemmas.{all-permutation}
-use Rattle.sqlite_sql.specs.Program.{overlay}
-use Rattle.sqlite_sql.specs.Query.{Output, Query, output, output_cmp}
-use Rattle.sqlite_sql.specs.Term.{Term, col}
+use Rattle.sqlite_sql.specs.{Program.overlay, Query.Output, Query.Query, Query.output, Query.output_cmp, Term.Term, Term.col}
 use Rattle.sqlite_sql.proofs.QueryLemmas.{output_cmp_total}
 use Rattle.model_laws.proofs.Basics.{list_any-map, list_any-same}
-use Rattle.desk_model.specs.Derived.{authz_code, order_code}
-use Rattle.desk_model.specs.Document.{authorization_status_text, order_status_text}
-use Rattle.desk_model.specs.{Kept.EachOf, Tables.Tables}
-use Rattle.desk_model.specs.declared.{objects.Nonce.Nonce, status.AuthzStatus.AuthzStatus, status.OrderStatus.OrderStatus}
+use Rattle.desk_model.specs.{Derived.authz_code, Derived.order_code, Document.authorization_status_text, Document.order_status_text, Kept.EachOf, Tables.Tables}
+use Rattle.desk_model.specs.{declared.objects.Nonce.Nonce, declared.status.AuthzStatus.AuthzStatus, declared.status.OrderStatus.OrderStatus}
 use Rattle.model_lives.specs.Above.{first_of}
-use Rattle.sql_tables.specs.Holds.{Holds}
-use Rattle.sql_tables.specs.Layouts.{HasRows, Layout, authorization_layout, nonce_layout, order_layout}
-use Rattle.sql_tables.proofs.Holding.{authorizations_held, nonces_held, orders_held}
-use Rattle.sql_tables.proofs.Keyed.{three}
-use Rattle.sql_read.specs.{Earliest.FindsEarliest, Earliest.IsEarliest, Earliest.TellsEarliest, Failures.IsMet}
-use Rattle.sql_read.specs.Earliest.{authorization_ends, first_number, issues, order_ends}
+use Rattle.sql_tables.specs.{Holds.Holds, Layouts.HasRows, Layouts.Layout, Layouts.authorization_layout, Layouts.nonce_layout, Layouts.order_layout}
+use Rattle.sql_tables.proofs.{Holding.authorizations_held, Holding.nonces_held, Holding.orders_held, Keyed.three}
+use Rattle.sql_read.specs.Earliest.{FindsEarliest, IsEarliest, TellsEarliest, authorization_ends, first_number, issues, order_ends}
 use Rattle.sql_read.specs.LookUpFaults.{BeginWithMoment, IsOfMemory, IsOfMemoryOrDisk}
-use Rattle.sql_read.specs.declared.fault.{ReadFault.ReadFault, ReadFault.TheVariants.Engine}
-use Rattle.sql_schema.specs.Stays.{Asks}
-use Rattle.sql_schema.specs.Schema.{desk_schema}
+use Rattle.sql_read.specs.{Failures.IsMet, declared.fault.ReadFault.ReadFault, declared.fault.ReadFault.TheVariants.Engine}
+use Rattle.sql_schema.specs.{Stays.Asks, Schema.desk_schema}
 use Rattle.sql_schema.specs.declared.authorizations.TheConstants as authz
 use Rattle.sql_schema.specs.declared.nonces.TheConstants as nonce
 use Rattle.sql_schema.specs.declared.orders.TheConstants as ord
 use Rattle.sql_read.proofs.Answered.{IsOrderedAs, IsReading, answers_up_to, by, first_row, passes, picked}
-use Rattle.sql_read.proofs.{Failing.query_fails, Lists.filter-all, LookUpFaults.of_memory}
 use Rattle.sql_read.proofs.LookUpReadings.{authorization_end_reading, is_equal, issue_reading, order_end_reading, text}
-use Rattle.sql_read.proofs.StatusTests.{authorization_status_test, order_status_test}
-use Rattle.sql_read.proofs.Tests.{eq_as, lt_as, text_test}
-use Rattle.sql_read.proofs.TableColumns.{order_status_at, authorization_status_at}
+use Rattle.sql_read.proofs.{Failing.query_fails, Lists.filter-all, LookUpFaults.of_memory, StatusTests.authorization_status_test, StatusTests.order_status_test}
+use Rattle.sql_read.proofs.{Tests.eq_as, Tests.lt_as, Tests.text_test, TableColumns.order_status_at, TableColumns.authorization_status_at}
 
 -- ---- moments in their order
 
@@ -54,9 +40,7 @@ twice m = (Int (pos m) ∷ [], Int (pos m) ∷ [])
 
 -- what nothing follows
 then_equal : (o : Ordering) → ordering_then o Equal ≡ o
-then_equal Less = refl
-then_equal Equal = refl
-then_equal Greater = refl
+then_equal o = search rules
 
 -- none is there
 none_of : (ms : List ℕ) → AllByRecursion (λ _. ⊥) (map twice ms) → ms ≡ []
@@ -74,13 +58,11 @@ are_moments (m ∷ ms) = ((m, refl), are_moments ms)
 
 -- none was found where there is none
 found_none : (ms : List ℕ) (found : Option ℕ) → option_map (λ m. pos m) found ≡ None → ms ≡ [] → IsEarliest ms found
-found_none ms None is none = none
-found_none ms (Some m) is none = absurd (let e = is in cc)
+found_none ms found h k = search rules
 
 -- the one that was found
 found_some : (ms : List ℕ) (found : Option ℕ) (m : ℕ) → option_map (λ n. pos n) found ≡ Some (pos m) → IsEarliest ms (Some m) → IsEarliest ms found
-found_some ms None m is earliest = absurd (let e = is in cc)
-found_some ms (Some n) m is earliest = subst (λ k. IsEarliest ms (Some k)) (sym (let same : pos n ≡ pos m = same_Some (pos n) (pos m) is in cc)) earliest
+found_some ms found m h k = grind arith
 
 module _ (tree : ℕ) (tests project : List Term) (place : ℕ) where
   -- a query that orders by a column

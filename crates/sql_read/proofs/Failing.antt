@@ -1,21 +1,16 @@
 -- A query of a desk's tables fails for memory or the disk alone.
-use Rattle.std.proofs.Common.{◌≡◌, inl, inr, ℕ, true, List, [], ◌∷◌, length, IsTrue, IsSome, None, Option, Ok, Err, All, refl, sym, ap, subst, ◌∙◌}
-use Rattle.std.proofs.Common.{arith, append-nil}
-use Rattle.sqlite_value.specs.Order.{Row}
+use Rattle.std.proofs.Common.{◌≡◌, inl, inr, ℕ, true, List, [], ◌∷◌, length, IsTrue, IsSome, None, Option, Ok, Err, All, refl, sym, ap, subst, ◌∙◌, arith}
+use Rattle.std.proofs.Common.{append-nil, rules}
+use Rattle.sqlite_value.specs.{Order.Row, declared.keys.Key.Key}
 use Rattle.sqlite_trees.specs.declared.error.StoreError.{StoreError}
-use Rattle.sqlite_trees.specs.declared.error.StoreError.TheVariants as store
 use Rattle.sqlite_schema.specs.declared.command.{Command.Command, Command.TheVariants.Select}
 use Rattle.sqlite_resolve.specs.declared.{compiled.Compiled.Compiled, error.CompileError.CompileError}
 use Rattle.sqlite_typing.specs.Types.{accepts_program}
-use Rattle.sqlite_sql.specs.{Term.Term, Program.overlay}
-use Rattle.sqlite_sql.specs.Query.{Join, has_no_fold}
+use Rattle.sqlite_sql.specs.{Term.Term, Program.overlay, Query.Join, Query.has_no_fold}
 use Rattle.sqlite_sql.proofs.QueryLemmas.{no_fold_overflows}
-use Rattle.sqlite_value.specs.declared.keys.Key.{Key}
-use Rattle.sqlite.specs.{Clock.timed, Schema.Schema}
-use Rattle.sqlite.specs.Effect.{Database, RefusesToRead}
 use Rattle.sqlite.specs.Listing.{understood, reads_listing, IsSourceOf}
 use Rattle.sqlite.specs.State.{State, store_error, IsNoStatement, HasCause, FailsToQuery, FailsToShow, IsNotRun, IsUnchanged, Shown}
-use Rattle.sqlite.specs.declared.error.Error.{Error}
+use Rattle.sqlite.specs.{Clock.timed, Schema.Schema, Effect.Database, Effect.RefusesToRead, declared.error.Error.Error}
 use Rattle.sqlite.proofs.Callers.{IsPlain, command_of}
 use Rattle.sql_schema.specs.{Failing.IsFailure, Stays.Asks}
 use Rattle.sql_read.specs.Failures.{FailsToRead, MayRead}
@@ -25,12 +20,7 @@ use Rattle.sql_read.proofs.Answered.{IsCommand, IsReading, IsReadingFrom, all_ro
 
 -- a failure of an open store
 pub failed : (old new : State) (e : Error) (cause : StoreError) → IsTrue old.is_open → e ≡ store_error cause → HasCause old new ⊥ cause → IsFailure e
-failed old new e store.OutOfMemory is_open is why = inl is
-failed old new e store.Io is_open is why = inr (inl is)
-failed old new e store.Corrupt is_open is why = inr (inr (inl is))
-failed old new e store.Full is_open is why = inr (inr (inr is))
-failed old new e store.Broken is_open is why = absurd (let x = sym is_open ∙ why in cc)
-failed old new e store.Unstorable is_open is why = absurd why
+failed old new e cause h k l = search rules
 
 module _ {schema : Schema} (limit : Term) (text : List ℕ) (from : Join) (unfolded : has_no_fold from ≡ true) (tests project : List Term)
     (order : List (Term × Key)) (params : Row)

@@ -2,26 +2,16 @@
 use Rattle.std.proofs.Common.{◌≡◌, ◌⊎◌, inl, inr, ◌∷◌, [], map, MatchOption, Option, Some, None, Result, Ok, Err, sym, ap, subst, ◌∙◌, arith}
 use Rattle.std.proofs.lemmas.Simd.{map-map}
 use Rattle.std.specs.Prelude.{IsSome}
-use Rattle.sqlite.specs.Held.{Held, state}
-use Rattle.sqlite.specs.State.{HasCleanDisk, IsUnchanged}
-use Rattle.sqlite.specs.Store.{Ghosts}
-use Rattle.sqlite.specs.declared.error.Error.{Error}
-use Rattle.store_book.specs.IsBook.{IsBookOfStored, IsStoredBook}
-use Rattle.store_book.specs.BookRows.{AreBookRows}
+use Rattle.sqlite.specs.{Held.Held, Held.state, State.HasCleanDisk, State.IsUnchanged, Store.Ghosts, declared.error.Error.Error}
+use Rattle.store_book.specs.{IsBook.IsBookOfStored, IsBook.IsStoredBook, BookRows.AreBookRows}
 use Rattle.store_book.proofs.KeyedRows.{books_have_rows}
-use Rattle.store_columns.specs.{Columns.meta_columns, Limits.IsStoredMeta}
-use Rattle.desk_model.specs.Kept.{EachOf}
-use Rattle.store_columns.specs.declared.columns.StoredRows.{StoredRows}
+use Rattle.store_columns.specs.{Columns.meta_columns, Limits.IsStoredMeta, declared.columns.StoredRows.StoredRows}
+use Rattle.desk_model.specs.{Kept.EachOf, Tables.Tables, declared.rows.Meta.Meta}
 use Rattle.store_columns.proofs.RowsApart.{metas-apart}
-use Rattle.desk_model.specs.Tables.{Tables}
-use Rattle.desk_model.specs.declared.rows.Meta.{Meta}
-use Rattle.sql_read.specs.{AllTables.FailsAtFirst, Reads.Reads}
-use Rattle.sql_read.specs.Failures.{IsMet, IsOutOfMemory, MayRead}
-use Rattle.sql_read.specs.First.{AreFirstShown, ShowsFirstMeta, raised_meta}
 use Rattle.sql_read.specs.FirstRows.{HasNoFirstBook, HasNoFirstMeta, HasNoRowsWith, IsFirstMeta, IsFirstReadable}
-use Rattle.sql_read.specs.Only.{ShowsOnlyFirstMetas, ShowsOnlyRows}
-use Rattle.sql_read.specs.Spelled.{meta_in}
-use Rattle.sql_read.specs.declared.formats.Format.TheVariants.{First}
+use Rattle.sql_read.specs.{AllTables.FailsAtFirst, Reads.Reads, Failures.IsMet, Failures.IsOutOfMemory, Failures.MayRead, First.AreFirstShown}
+use Rattle.sql_read.specs.{First.ShowsFirstMeta, First.raised_meta, Only.ShowsOnlyFirstMetas, Only.ShowsOnlyRows, Spelled.meta_in}
+use Rattle.sql_read.specs.{declared.formats.Format.TheVariants.First}
 use Rattle.sql_read.proofs.{BookChecks.first_still, BookOfShown.first_book_shown, Failing.may_read_still, HeldBooks.held_first_only, MetFaults.met_behind}
 use Rattle.sql_read.proofs.Results.{either_then, fails_then, read_then, unchanged_after}
 use Rattle.sql_schema.specs.{Failing.IsFailure, Stays.Asks}

@@ -1,14 +1,12 @@
 -- Tables of a desk in format 1 that an upgrade reads.
-use Rattle.sqlite.specs.Held.{Held, state}
-use Rattle.sqlite.specs.Store.{Ghosts}
+use Rattle.sqlite.specs.{Held.Held, Held.state, Store.Ghosts}
 use Rattle.store_columns.specs.Flat.{challenge_rows}
 use Rattle.desk_model.specs.Tables.{Tables}
 use Rattle.sql_schema.specs.declared.accounts.TheConstants as account
 use Rattle.sql_schema.specs.declared.authorizations.TheConstants as authz
 use Rattle.sql_schema.specs.declared.challenges.TheConstants as chall
 use Rattle.sql_tables.specs.{Holds.HoldsFirst, Layouts.challenge_layout, Sorted.sorted_by}
-use Rattle.sql_read.specs.Selecting.{IsQuery}
-use Rattle.sql_read.specs.declared.formats.Format.TheVariants.{First}
+use Rattle.sql_read.specs.{Selecting.IsQuery, declared.formats.Format.TheVariants.First}
 use Rattle.sql_read.proofs.Readings.{accounts_reading, authorizations_reading, challenges_reading}
 use Rattle.sql_read.proofs.TableFacts.{account_facts, authorization_facts, challenge_facts}
 use Rattle.sql_read.proofs.WholeTables.{IsWhole, accounts_whole, authorizations_whole, challenges_whole}

@@ -1,23 +1,17 @@
 -- The tables of a desk are of no later format, and a later format shows.
-use Rattle.std.proofs.Common.{◌≡◌, ◌<ℤ◌, ℤ, arith, inl, inr, List, [], ◌∷◌, map, true, refl, sym, ap, subst, ◌∙◌}
-use Rattle.std.specs.Int.Signed.{<ℤ_irrefl}
-use Rattle.sqlite.specs.declared.{types.Value.TheVariants.Int, error.Error.Error}
+use Rattle.std.proofs.Common.{◌≡◌, ◌<ℤ◌, ℤ, inl, inr, List, [], ◌∷◌, map, true, refl, sym, ap, subst, ◌∙◌, rules}
+use Rattle.sqlite.specs.{declared.types.Value.TheVariants.Int, declared.error.Error.Error, State.State, State.FailsToQuery, State.Shown}
 use Rattle.sqlite_value.specs.Order.{Row, column}
 use Rattle.sqlite_sql.specs.{Query.Output, Term.col}
-use Rattle.sqlite.specs.State.{State, FailsToQuery, Shown}
 use Rattle.sqlite.proofs.Callers.{one_permutation}
 use Rattle.store_columns.specs.Columns.{known_format}
-use Rattle.desk_model.specs.Tables.{Tables}
-use Rattle.desk_model.specs.declared.rows.Meta.{Meta}
+use Rattle.desk_model.specs.{Tables.Tables, declared.rows.Meta.Meta}
 use Rattle.sql_tables.specs.Images.{formatted_image}
-use Rattle.sql_read.specs.{BookShown.HoldsIn, Failures.MayRead}
-use Rattle.sql_read.specs.Format.{IsNewer, IsOfLaterFormat}
-use Rattle.sql_read.specs.declared.formats.Format.{Format}
-use Rattle.sql_read.specs.declared.formats.Format.TheVariants.{First, Second}
+use Rattle.sql_read.specs.{BookShown.HoldsIn, Failures.MayRead, Format.IsNewer, Format.IsOfLaterFormat, declared.formats.Format.Format}
+use Rattle.sql_read.specs.{declared.formats.Format.TheVariants.First, declared.formats.Format.TheVariants.Second}
 use Rattle.sql_schema.specs.declared.meta.TheConstants as meta
 use Rattle.sql_read.proofs.Answered.{all_rows, answers, picked, shown_somehow}
-use Rattle.sql_read.proofs.{Failing.query_fails, Readings.format_reading}
-use Rattle.sql_read.proofs.KeptRows.{format_kept, number_of, schema_of}
+use Rattle.sql_read.proofs.{Failing.query_fails, Readings.format_reading, KeptRows.format_kept, KeptRows.number_of, KeptRows.schema_of}
 use Rattle.sql_schema.specs.Failing.{IsFailure}
 
 module _ (f : Format) (old new : State) (there : old.now.schema ≡ schema_of f) where
@@ -39,8 +33,7 @@ module _ (f : Format) (old new : State) (there : old.now.schema ≡ schema_of f)
 
 -- neither format is a later one
 none_later : (format : Format) → ¬ (known_format <ℤ number_of format)
-none_later First low = absurd (omega (arith, low))
-none_later Second low = absurd (<ℤ_irrefl low)
+none_later format h = search rules
 
 -- so its row is of no later one
 pub never_newer : (format : Format) (old new : State) (T : Tables) (rows : List Row) → HoldsIn format old.now T

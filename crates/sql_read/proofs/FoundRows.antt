@@ -2,25 +2,17 @@
 use Rattle.std.proofs.Common.{◌≡◌, ℕ, Bool, List, [], ◌∷◌, map, filter, cond, refl, subst, sym, ◌∙◌}
 use Rattle.std.proofs.lemmas.Simd.{map-map}
 use Rattle.sqlite_value.specs.Order.{Row}
-use Rattle.sqlite_sql.specs.Query.{as_count}
-use Rattle.sqlite_sql.specs.Term.{Term, eval}
-use Rattle.sqlite.specs.{Effect.Database, Schema.Schema, Store.Ghosts}
-use Rattle.sqlite.specs.Held.{Held, state}
-use Rattle.sqlite.specs.State.{FailsToQuery, Shown}
-use Rattle.sqlite.specs.declared.error.Error.{Error}
+use Rattle.sqlite_sql.specs.{Query.as_count, Term.Term, Term.eval}
+use Rattle.sqlite.specs.{Effect.Database, Schema.Schema, Store.Ghosts, Held.Held, Held.state, State.FailsToQuery, State.Shown, declared.error.Error.Error}
 use Rattle.store_columns.specs.{Flat.flat, Laws.AreToldApart, Limits.AreStored}
 use Rattle.store_columns.proofs.RowsApart.{table-apart}
-use Rattle.model_laws.proofs.Basics.{each-map, each_of_map}
-use Rattle.model_laws.proofs.Keeps.{each-filter}
+use Rattle.model_laws.proofs.{Basics.each-map, Basics.each_of_map, Keeps.each-filter}
 use Rattle.desk_model.specs.{Kept.EachOf, Tables.Tables}
-use Rattle.sql_schema.specs.Schema.{desk_schema}
-use Rattle.sql_schema.specs.Failing.{IsFailure}
-use Rattle.sql_read.specs.Failures.{HasTexts, MayRead}
-use Rattle.sql_read.specs.{LookUpFaults.AreTableRows, Looking.Finds}
+use Rattle.sql_schema.specs.{Schema.desk_schema, Failing.IsFailure}
+use Rattle.sql_read.specs.{Failures.HasTexts, Failures.MayRead, LookUpFaults.AreTableRows, Looking.Finds}
 use Rattle.store_book.specs.IsBook.{IsStoredBook}
-use Rattle.sql_read.proofs.{Answered.by, Failing.query_fails, Lists.each_limited, TableColumns.all_fit}
-use Rattle.sql_read.proofs.KeyedReadings.{HasRowsIn, columns_of, cut, shown_cut}
-use Rattle.sql_read.proofs.TableFacts.{IsReadingOf, TableFacts, columns, picks}
+use Rattle.sql_read.proofs.{Answered.by, Failing.query_fails, Lists.each_limited, TableColumns.all_fit, KeyedReadings.HasRowsIn, KeyedReadings.columns_of}
+use Rattle.sql_read.proofs.{KeyedReadings.cut, KeyedReadings.shown_cut, TableFacts.IsReadingOf, TableFacts.TableFacts, TableFacts.columns, TableFacts.picks}
 
 -- ---- rows and their columns
 

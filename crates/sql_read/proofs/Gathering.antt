@@ -1,5 +1,5 @@
 -- Challenges that are gathered under the authorization beside the first of them.
-use Rattle.std.proofs.Common.{◌≡◌, ◌≤◌, List, [], ◌∷◌, map, length, ap, arith}
+use Rattle.std.proofs.Common.{◌≡◌, ◌≤◌, List, [], ◌∷◌, map, length, rules}
 use Rattle.std.specs.Prelude.{get_or}
 use Rattle.store_columns.specs.declared.columns.JoinedChallenge.{JoinedChallenge}
 use Rattle.sql_read.specs.Joined.{gathered}
@@ -7,6 +7,4 @@ use Rattle.sql_read.specs.Joined.{gathered}
 -- with the first row
 pub gathered_by : (ws : List JoinedChallenge) (first : JoinedChallenge) → 1 ≤ length ws → first ≡ get_or ws 0 first
     → record first.authorization { challenges = map (λ w. w.challenge) ws } ∷ [] ≡ gathered ws
-gathered_by [] first some is = absurd (omega (arith, some))
-gathered_by (w ∷ ws) first some is =
-    ap (λ (f : JoinedChallenge). record f.authorization { challenges = map (λ (x : JoinedChallenge). x.challenge) (w ∷ ws) } ∷ []) is
+gathered_by ws first h k = search rules

@@ -1,38 +1,28 @@
 -- Held tables show the rows of their book alone.
-use Rattle.std.proofs.Common.{◌≡◌, ◌<◌, ◌+◌, inl, inr, ℕ, List, [], ◌∷◌, ◌++◌, map, refl, ap, subst, arith}
-use Rattle.std.proofs.lemmas.List.{map-id}
-use Rattle.std.proofs.lemmas.List.Sorted.{IsPermutation-map, IsPermutation-refl}
-use Rattle.sqlite.specs.{Order.Row, Store.Ghosts}
-use Rattle.sqlite.specs.Held.{Held, state}
+use Rattle.std.proofs.Common.{◌≡◌, ◌<◌, ◌+◌, inr, ℕ, List, [], ◌∷◌, ◌++◌, map, refl, ap, subst, arith}
+use Rattle.std.proofs.{lemmas.List.map-id, lemmas.List.Sorted.IsPermutation-map, lemmas.List.Sorted.IsPermutation-refl}
+use Rattle.sqlite.specs.{Order.Row, Store.Ghosts, Held.Held, Held.state}
 use Rattle.store_columns.specs.Columns.{account_columns, first_format, key_columns, meta_columns, nonce_columns}
 use Rattle.store_columns.specs.Flat.{bare_row, challenge_rows, key_rows, listed_rows, owned_by, without_challenges, without_listed}
-use Rattle.store_columns.specs.Limits.{AreStored, IsStoredKey}
-use Rattle.store_columns.specs.declared.columns.{FlatRows.FlatRows, Owned.Owned}
+use Rattle.store_columns.specs.{Limits.AreStored, Limits.IsStoredKey, declared.columns.FlatRows.FlatRows, declared.columns.Owned.Owned}
 use Rattle.model_laws.specs.Ordered.{Ascends}
 use Rattle.model_laws.proofs.RowLists.{ascends_map}
-use Rattle.desk_model.specs.{Kept.EachOf, Tables.Tables}
-use Rattle.desk_model.specs.declared.rows.{Listed.Listed, OrderRow.OrderRow}
+use Rattle.desk_model.specs.{Kept.EachOf, Tables.Tables, declared.rows.Listed.Listed, declared.rows.OrderRow.OrderRow}
 use Rattle.sql_schema.specs.declared.accounts.TheConstants as account
 use Rattle.sql_schema.specs.declared.keys.TheConstants as chall_key
 use Rattle.sql_schema.specs.declared.meta.TheConstants as meta
 use Rattle.sql_schema.specs.declared.nonces.TheConstants as nonce
 use Rattle.sql_tables.specs.Holds.{AreRising, Holds, HoldsFirst}
-use Rattle.sql_tables.specs.Images.{formatted_columns}
-use Rattle.sql_tables.specs.Layouts.{challenge_layout, key_layout}
-use Rattle.sql_tables.specs.Sorted.{sorted_by}
+use Rattle.sql_tables.specs.{Images.formatted_columns, Layouts.challenge_layout, Layouts.key_layout, Sorted.sorted_by}
 use Rattle.sql_tables.proofs.{AnswerKeys.keys_apart, Sorting.each_sorted, Sorting.sorted_moves, Sorting.sorted_rises}
 use Rattle.store_book.specs.{ByKey.AreByKey, IsBook.IsBookOf, IsBook.IsStoredBook, Passing.PlacedFrom}
-use Rattle.sql_read.specs.BookShown.{HoldsIn}
-use Rattle.sql_read.specs.Checking.{AreFirst, ShowsOnly}
-use Rattle.sql_read.specs.First.{raised_meta}
 use Rattle.sql_read.specs.Only.{ShowsOnlyBook, ShowsOnlyFirstBook, ShowsOnlyFirstMetas, ShowsOnlyKeys, ShowsOnlyRows}
 use Rattle.sql_read.specs.Spelled.{FitsAccount, FitsKey, FitsMeta, FitsNonce, account_in, key_in, meta_in, nonce_in}
-use Rattle.sql_read.specs.declared.formats.Format.{Format}
-use Rattle.sql_read.specs.declared.formats.Format.TheVariants.{First, Second}
-use Rattle.sql_read.proofs.KeptRows.{challenges_kept, meta_kept}
-use Rattle.sql_read.proofs.{Readings.meta_reading, TableFacts.meta_facts}
+use Rattle.sql_read.specs.{BookShown.HoldsIn, Checking.AreFirst, Checking.ShowsOnly, First.raised_meta, declared.formats.Format.Format}
+use Rattle.sql_read.specs.{declared.formats.Format.TheVariants.First, declared.formats.Format.TheVariants.Second}
 use Rattle.sql_read.proofs.WholeTables.{accounts_whole, authorizations_whole, challenges_whole, keys_whole, listed_only, meta_whole, nonces_whole, orders_whole}
 use Rattle.sql_read.proofs.WholeTables.{whole}
+use Rattle.sql_read.proofs.{KeptRows.challenges_kept, KeptRows.meta_kept, Readings.meta_reading, TableFacts.meta_facts}
 
 -- ---- rows by key
 
@@ -62,8 +52,7 @@ next_placed n place k (l ∷ ls) rest low up more =
 first_placed : (order place n : ℕ) (ls : List Listed) (rest : List (Owned Listed)) → order < n → Ascends (λ l. l.place) 1 ls
     → ((order place : ℕ) → order < n + 1 → PlacedFrom order place rest) → PlacedFrom order place (owned_by n ls ++ rest)
 first_placed order place n [] rest low up more = more order place (omega (arith, low))
-first_placed order place n (l ∷ ls) rest low up more =
-    (inl low, next_placed n l.place (l.place + 1) ls rest (omega arith) up.1 (λ place. more n place (omega arith)))
+first_placed order place n (l ∷ ls) rest low up more = grind (arith, next_placed)
 
 -- what orders list, whose numbers ascend, and the places of each
 all_placed : (order place n : ℕ) (os : List OrderRow) → order < n → Ascends (λ o. o.number) n os → EachOf (λ o. Ascends (λ l. l.place) 1 o.listed) os

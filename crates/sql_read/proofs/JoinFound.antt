@@ -1,39 +1,28 @@
 -- What the look-up of challenges that wait finds: each, beside its authorization.
 use Rattle.std.proofs.Common.{◌≡◌, List, [], ◌∷◌, map, filter, refl, subst, sym, ap, ◌∙◌}
-use Rattle.std.specs.Prelude.{◌==◌}
 use Rattle.std.proofs.lemmas.Simd.{map-map}
-use Rattle.sqlite.specs.Held.{Held, state}
-use Rattle.sqlite.specs.Store.{Ghosts}
-use Rattle.store_columns.specs.Flat.{answer_key, bare, challenge_rows, without_challenges}
-use Rattle.store_columns.specs.Limits.{IsStoredAuthorization}
-use Rattle.store_columns.specs.TextColumns.{HasTextAuthorization, HasTextChallenge}
-use Rattle.store_columns.specs.declared.columns.{JoinedChallenge.JoinedChallenge}
-use Rattle.model_laws.proofs.Basics.{each, each-map, each_of_map, map-each}
-use Rattle.model_laws.proofs.Keeps.{each-filter}
+use Rattle.std.specs.Prelude.{◌==◌}
+use Rattle.sqlite.specs.{Held.Held, Held.state, Store.Ghosts}
+use Rattle.store_columns.specs.{Flat.answer_key, Flat.bare, Flat.challenge_rows, Flat.without_challenges, Limits.IsStoredAuthorization}
+use Rattle.store_columns.specs.{TextColumns.HasTextAuthorization, TextColumns.HasTextChallenge, declared.columns.JoinedChallenge.JoinedChallenge}
+use Rattle.model_laws.proofs.{Basics.each, Basics.each-map, Basics.each_of_map, Basics.map-each, Keeps.each-filter}
 use Rattle.model_lives.specs.LookUps.{AreWaiting, bare_authorizations}
-use Rattle.desk_model.specs.{Kept.EachOf, Tables.Tables}
-use Rattle.desk_model.specs.Document.{challenge_status_text}
-use Rattle.desk_model.specs.declared.rows.{AuthorizationRow.AuthorizationRow}
+use Rattle.desk_model.specs.{Kept.EachOf, Tables.Tables, Document.challenge_status_text, declared.rows.AuthorizationRow.AuthorizationRow}
 use Rattle.desk_model.specs.declared.status.ChallengeStatus.TheVariants as challenge
 use Rattle.store_book.specs.IsBook.{IsStoredBook}
 use Rattle.sql_schema.specs.declared.challenges.TheConstants as chall
-use Rattle.sql_tables.specs.{Holds.Holds, Sorted.sorted_by}
-use Rattle.sql_tables.specs.Layouts.{challenge_layout}
+use Rattle.sql_tables.specs.{Holds.Holds, Sorted.sorted_by, Layouts.challenge_layout}
 use Rattle.sql_tables.proofs.Sorting.{each_sorted, sorted_rises}
-use Rattle.sql_read.specs.{Joined.joined_row, Joined.keyed_row, Looking.Finds}
-use Rattle.sql_read.specs.Spelled.{FitsJoined, joined_in}
-use Rattle.sql_read.specs.declared.formats.Format.TheVariants.{Second}
-use Rattle.sql_read.proofs.Answered.{all_rows, by}
+use Rattle.sql_read.specs.{Joined.joined_row, Joined.keyed_row, Looking.Finds, Spelled.FitsJoined, Spelled.joined_in}
+use Rattle.sql_read.specs.{declared.formats.Format.TheVariants.Second}
 use Rattle.sql_read.proofs.Beside.{IsOwned, Pair, each_beside, each_pair, firsts, owner, owners_there, pairs, parts}
-use Rattle.sql_read.proofs.{Failing.join_fails, FoundRows.finds_shown}
-use Rattle.sql_read.proofs.JoinParts.{HasTextJoined, IsStoredJoined, IsStoredKeyed, join_from, join_tests, joined-apart, joined_back}
-use Rattle.sql_read.proofs.JoinParts.{joined_columns, joined_fits, joined_params, joined_project}
-use Rattle.sql_read.proofs.JoinRows.{HasTrees, pairs_shown}
+use Rattle.sql_read.proofs.JoinParts.{HasTextJoined, IsStoredJoined, IsStoredKeyed, join_from, join_tests, joined-apart, joined_back, joined_columns}
+use Rattle.sql_read.proofs.JoinParts.{joined_fits, joined_params, joined_project}
 use Rattle.sql_read.proofs.KeyedFound.{all_challenges, all_keys, keyed_stored, keyed_texts, own_keys}
-use Rattle.sql_read.proofs.KeptRows.{authorizations_kept}
-use Rattle.sql_read.proofs.LookUpReadings.{joined_reading, text}
 use Rattle.sql_read.proofs.TableFacts.{authorization_facts, challenge_facts, columns}
 use Rattle.sql_read.proofs.WaitingChallenges.{are_waiting, found_waiting, numbered, waits}
+use Rattle.sql_read.proofs.{Answered.all_rows, Answered.by, Failing.join_fails, FoundRows.finds_shown, JoinRows.HasTrees, JoinRows.pairs_shown}
+use Rattle.sql_read.proofs.{KeptRows.authorizations_kept, LookUpReadings.joined_reading, LookUpReadings.text}
 
 -- ---- in a database
 

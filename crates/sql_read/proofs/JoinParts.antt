@@ -1,23 +1,17 @@
 -- The columns of a challenge beside the key of its answer, where it has one, and beside its authorization: what is shown of them, and what is read of that.
-use Rattle.std.proofs.Common.{◌≡◌, ◌++◌, ℕ, false, List, [], ◌∷◌, Option, None, Some, option_map, ap, arith, refl}
-use Rattle.std.proofs.lemmas.{Option.same_Some}
-use Rattle.sqlite_value.specs.Order.{Row}
-use Rattle.sqlite_value.specs.declared.keys.{Collation.TheVariants.Binary, Key.Key}
-use Rattle.sqlite_sql.specs.declared.ops.BinaryOp.TheVariants.{Compare}
-use Rattle.sqlite_sql.specs.declared.ops.CompareOp.TheVariants.{Eq}
+use Rattle.std.proofs.Common.{◌≡◌, ◌++◌, ℕ, false, List, [], ◌∷◌, Option, option_map, ap, arith}
+use Rattle.sqlite_value.specs.{Order.Row, declared.keys.Collation.TheVariants.Binary, declared.keys.Key.Key}
 use Rattle.sqlite_sql.specs.Query.{Join, end, inner, left}
-use Rattle.sqlite_sql.specs.Term.{Term, col, op2}
-use Rattle.store_columns.specs.Columns.{authorization_columns, challenge_columns, key_columns}
-use Rattle.store_columns.specs.Laws.{AreToldApart}
-use Rattle.store_columns.specs.Limits.{IfRecorded, IsStoredAuthorization, IsStoredChallenge, IsStoredKey}
-use Rattle.store_columns.specs.TextColumns.{HasTextAuthorization, HasTextChallenge}
-use Rattle.store_columns.specs.declared.columns.{AnswerKey.AnswerKey, AuthzColumns.AuthzColumns, BareChallenge.BareChallenge, ChallColumns.ChallColumns}
-use Rattle.store_columns.specs.declared.columns.{ChallKeyColumns.ChallKeyColumns, Owned.Owned}
-use Rattle.store_columns.proofs.RowsApart.{authorizations-apart, challenges-apart, keys-apart}
+use Rattle.sqlite_sql.specs.{declared.ops.BinaryOp.TheVariants.Compare, declared.ops.CompareOp.TheVariants.Eq, Term.Term, Term.col, Term.op2}
+use Rattle.store_columns.specs.{Columns.authorization_columns, Columns.challenge_columns, Columns.key_columns, Limits.IfRecorded, Limits.IsStoredAuthorization}
+use Rattle.store_columns.specs.{Limits.IsStoredChallenge, Limits.IsStoredKey, Laws.AreToldApart, TextColumns.HasTextAuthorization, TextColumns.HasTextChallenge}
+use Rattle.store_columns.specs.{declared.columns.AnswerKey.AnswerKey, declared.columns.AuthzColumns.AuthzColumns, declared.columns.BareChallenge.BareChallenge}
+use Rattle.store_columns.specs.{declared.columns.ChallColumns.ChallColumns, declared.columns.ChallKeyColumns.ChallKeyColumns, declared.columns.Owned.Owned}
+use Rattle.store_columns.proofs.RowsApart.{authorizations-apart, challenges-apart}
 use Rattle.desk_model.specs.declared.rows.AuthorizationRow.{AuthorizationRow}
 use Rattle.sql_tables.specs.Images.{authorization_params, blob_or_null, challenge_params, int_or_null}
-use Rattle.sql_read.specs.Spelled.{FitsJoined, FitsKeyOrNone, FitsKeyed, joined_in, keyed_in}
-use Rattle.sql_read.proofs.TableColumns.{authorization_back, challenge_back, challenge_status_at, int_fits, text_fits}
+use Rattle.sql_read.specs.Spelled.{FitsJoined, FitsKeyed, joined_in, keyed_in}
+use Rattle.sql_read.proofs.TableColumns.{challenge_status_at}
 
 -- ---- rows of two and of three tables side by side
 
@@ -50,10 +44,7 @@ IsStoredJoined r = (IsStoredChallenge r.0.0 × IsStoredAuthorization r.0.1) × I
 
 -- the columns of a key, or of none, tell it apart
 key-apart : AreToldApart (option_map key_columns) (IfRecorded IsStoredKey)
-key-apart None None kept kept2 same = refl
-key-apart None (Some l) kept kept2 same = absurd (cc same)
-key-apart (Some k) None kept kept2 same = absurd (cc same)
-key-apart (Some k) (Some l) kept kept2 same = ap (λ x. Some x) (keys-apart k l kept kept2 (same_Some (key_columns k) (key_columns l) same))
+key-apart h k l g e = grind arith
 
 -- so do those of the rows
 pub keyed-apart : AreToldApart keyed_columns IsStoredKeyed
@@ -154,18 +145,10 @@ joined_params c = challenge_params c.0.0 ++ (authorization_params c.0.1 ++ key_o
 
 -- they are read back
 pub keyed_back : (c : KeyedColumns) → keyed_in (keyed_params c) ≡ c
-keyed_back c = by c.0 c.1
-  where
-    by : (c : ChallColumns) (k : Option ChallKeyColumns) → keyed_in (keyed_params (c, k)) ≡ (c, k)
-    by c None = λ i. (challenge_back c i, None)
-    by c (Some k) = λ i. (challenge_back c i, Some k)
+keyed_back c = grind arith
 
 pub joined_back : (c : JoinedColumns) → joined_in (joined_params c) ≡ c
-joined_back c = by c.0.0 c.0.1 c.1
-  where
-    by : (c : ChallColumns) (a : AuthzColumns) (k : Option ChallKeyColumns) → joined_in (joined_params ((c, a), k)) ≡ ((c, a), k)
-    by c a None = λ i. ((challenge_back c i, authorization_back a i), None)
-    by c a (Some k) = λ i. ((challenge_back c i, authorization_back a i), Some k)
+joined_back c = grind arith
 
 -- the TEXT columns are UTF-8
 abbrev pub HasTextKeyed : KeyedColumns → Type 0
@@ -176,50 +159,7 @@ HasTextJoined c = HasTextChallenge c.0.0 × HasTextAuthorization c.0.1
 
 -- then the values are of the kinds of the columns
 pub keyed_fits : (c : KeyedColumns) → HasTextKeyed c → FitsKeyed (keyed_params c)
-keyed_fits c h = (
-  (
-    (omega arith, tt),
-    (omega arith, tt),
-    (omega arith, h.kind),
-    (omega arith, tt),
-    (omega arith, int_fits c.0.answered),
-    (omega arith, int_fits c.0.reported),
-    (omega arith, text_fits c.0.outcome h.outcome),
-    (omega arith, h.status),
-  ),
-  key c.0 c.1,
-)
-  where
-    key : (c : ChallColumns) (k : Option ChallKeyColumns) → FitsKeyOrNone 8 (keyed_params (c, k))
-    key c None = ((omega arith, tt), tt)
-    key c (Some k) = ((omega arith, tt), ((omega arith, tt), (omega arith, tt)))
+keyed_fits c h = grind arith
 
 pub joined_fits : (c : JoinedColumns) → HasTextJoined c → FitsJoined (joined_params c)
-joined_fits c h = (
-  (
-    (omega arith, tt),
-    (omega arith, tt),
-    (omega arith, h.0.kind),
-    (omega arith, tt),
-    (omega arith, int_fits c.0.0.answered),
-    (omega arith, int_fits c.0.0.reported),
-    (omega arith, text_fits c.0.0.outcome h.0.outcome),
-    (omega arith, h.0.status),
-  ),
-  (
-    (omega arith, tt),
-    (omega arith, tt),
-    (omega arith, h.1.name),
-    (omega arith, tt),
-    (omega arith, tt),
-    (omega arith, tt),
-    (omega arith, int_fits c.0.1.ended),
-    (omega arith, text_fits c.0.1.end_kind h.1.end_kind),
-    (omega arith, h.1.status),
-  ),
-  key c.0.0 c.0.1 c.1,
-)
-  where
-    key : (c : ChallColumns) (a : AuthzColumns) (k : Option ChallKeyColumns) → FitsKeyOrNone 17 (joined_params ((c, a), k))
-    key c a None = ((omega arith, tt), tt)
-    key c a (Some k) = ((omega arith, tt), ((omega arith, tt), (omega arith, tt)))
+joined_fits c h = grind arith

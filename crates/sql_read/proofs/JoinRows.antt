@@ -1,40 +1,27 @@
 -- What the join shows: each challenge that waits, beside the one authorization of its number, and beside the key of its answer, where it has one.
-use Rattle.std.proofs.Common.{◌≡◌, ◌+◌, ◌++◌, ◌&&◌, ℕ, pos, Bool, true, false, cond, List, [], ◌∷◌, map, filter, flat_map}
-use Rattle.std.proofs.Common.{refl, sym, ap, subst, ◌∙◌}
-use Rattle.std.specs.Prelude.{◌==◌}
-use Rattle.std.specs.List.{list_all}
+use Rattle.std.proofs.Common.{◌≡◌, ◌+◌, ◌++◌, ◌&&◌, ℕ, pos, Bool, true, false, cond, List, [], ◌∷◌, map, filter, flat_map, refl, sym, ap, subst, ◌∙◌, arith}
+use Rattle.std.proofs.Common.{rules}
 use Rattle.std.proofs.{Math.Bool.and-true, lemmas.List.map-append, lemmas.Simd.map-map}
-use Rattle.sqlite.specs.declared.types.Value.TheVariants.{Int}
-use Rattle.sqlite.specs.State.{State, Shown}
+use Rattle.std.specs.{Prelude.◌==◌, List.list_all}
+use Rattle.sqlite.specs.{declared.types.Value.TheVariants.Int, State.State, State.Shown}
 use Rattle.sqlite_value.specs.Order.{Row}
 use Rattle.sqlite_trees.specs.Tree.{Trees}
-use Rattle.sqlite_sql.specs.Program.{overlay}
-use Rattle.sqlite_sql.specs.Query.{Output, end, inner, left, matches, output}
-use Rattle.sqlite_sql.specs.Term.{Env, holds}
-use Rattle.store_columns.specs.Columns.{authorization_columns, challenge_columns}
-use Rattle.store_columns.specs.Flat.{answer_key, bare_row, without_challenges}
-use Rattle.store_columns.specs.declared.columns.{AnswerKey.AnswerKey, Owned.Owned}
+use Rattle.sqlite_sql.specs.{Program.overlay, Query.Output, Query.end, Query.inner, Query.left, Query.matches, Query.output, Term.Env, Term.holds}
+use Rattle.store_columns.specs.{Flat.answer_key, declared.columns.AnswerKey.AnswerKey, declared.columns.Owned.Owned}
 use Rattle.model_laws.specs.Ordered.{Ascends}
 use Rattle.model_laws.proofs.{Basics.each_all, RowLists.ascends_filter}
 use Rattle.model_lives.proofs.Lists.{filter_nothing}
-use Rattle.desk_model.specs.Document.{challenge_status_text}
-use Rattle.desk_model.specs.Kept.{EachOf}
-use Rattle.desk_model.specs.declared.rows.{AuthorizationRow.AuthorizationRow, ChallengeRow.ChallengeRow}
+use Rattle.desk_model.specs.{Document.challenge_status_text, Kept.EachOf, declared.rows.AuthorizationRow.AuthorizationRow}
+use Rattle.desk_model.specs.{declared.rows.ChallengeRow.ChallengeRow}
 use Rattle.desk_model.specs.declared.status.ChallengeStatus.TheVariants as challenge
 use Rattle.sql_schema.specs.Schema.{desk_schema}
 use Rattle.sql_schema.specs.declared.challenges.TheConstants as chall
-use Rattle.sql_tables.specs.Images.{authorization_image, authorization_params, challenge_image, challenge_params, key_image}
-use Rattle.sql_tables.specs.Layouts.{challenge_layout}
+use Rattle.sql_tables.specs.{Images.authorization_image, Images.challenge_image, Images.key_image, Layouts.challenge_layout}
 use Rattle.sql_read.proofs.Answered.{all_rows, answers_from, by, picked_from, shown_in_order, strictly}
 use Rattle.sql_read.proofs.Beside.{IsOwned, Pair, beside, firsts, owner, pairs, parts}
 use Rattle.sql_read.proofs.JoinParts.{join_from, join_tests, joined_columns, joined_params, joined_project, on_key}
-use Rattle.sql_read.proofs.KeyedRows.{HasOwnKey, key_cells, key_shows, with_key}
-use Rattle.sql_read.proofs.Lists.{as_it_is, map-same}
-use Rattle.sql_read.proofs.LookUpReadings.{joined_reading, text}
-use Rattle.sql_read.proofs.SideBySide.{each_joined, never}
-use Rattle.sql_read.proofs.StatusTests.{challenge_waits}
-use Rattle.sql_read.proofs.Tests.{number_test, number_text_test}
-use Rattle.sql_read.proofs.WaitingChallenges.{waits}
+use Rattle.sql_read.proofs.{KeyedRows.HasOwnKey, KeyedRows.key_cells, KeyedRows.with_key, Lists.as_it_is, Lists.map-same, LookUpReadings.joined_reading}
+use Rattle.sql_read.proofs.{LookUpReadings.text, SideBySide.each_joined, SideBySide.never, Tests.number_test, Tests.number_text_test, WaitingChallenges.waits}
 
 -- numbers ascend as those of what is mapped
 ascends_of_map : {X Y : Type 0} (number : Y → ℕ) (f : X → Y) (n : ℕ) (xs : List X) → Ascends number n (map f xs) → Ascends (λ x. number (f x)) n xs
@@ -54,9 +41,7 @@ filled x = asked ∷ challenge_image x.0 ∷ authorization_image x.1 ∷ key_cel
 -- SQL's tests of a pair are the model's
 passes_as : (x : Pair) (key : Row)
     → list_all (holds (asked ∷ challenge_image x.0 ∷ authorization_image x.1 ∷ key ∷ [])) join_tests ≡ ((x.1.number == x.0.owner) && waits x.0)
-passes_as x key =
-    number_text_test x.1.number x.0.owner (challenge_status_text x.0.row.status) (challenge_status_text challenge.Processing)
-    ∙ (λ i. (x.1.number == x.0.owner) && challenge_waits x.0.row.status i)
+passes_as x key = search (rules, number_text_test)
 
 module _ (db : Trees) (keys : List AnswerKey) (keys_are : db 17 ≡ map key_image keys) where
   module _ (rows : List AuthorizationRow) (rows_are : db 5 ≡ map authorization_image rows) where
@@ -101,12 +86,7 @@ shown x = (Int (pos x.0.row.number) ∷ [], joined_params (joined_columns (parts
 
 -- as the statement shows it
 shows : (x : Pair) → output (picked_from all_rows join_from join_tests joined_project (by 0 ∷ [])) (filled x) ≡ shown x
-shows x =
-    λ i. (
-      Int (pos x.0.row.number) ∷ [],
-      challenge_params (challenge_columns (bare_row x.0))
-          ++ (authorization_params (authorization_columns (without_challenges x.1)) ++ key_shows (answer_key x.0.row) i),
-    )
+shows x = grind arith
 
 -- the trees of the three tables
 pub record HasTrees (db : Trees) (cs : List (Owned ChallengeRow)) (rows : List AuthorizationRow) (keys : List AnswerKey) : Type 0 where

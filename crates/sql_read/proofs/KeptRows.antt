@@ -9,14 +9,12 @@ use Rattle.store_columns.specs.TextColumns.{HasTextAuthorization, HasTextChallen
 use Rattle.model_laws.proofs.Basics.{each, each-map, each_all, each_of_map}
 use Rattle.desk_model.specs.{Kept.EachOf, Tables.Tables}
 use Rattle.sql_schema.specs.Schema.{desk_schema, first_schema}
-use Rattle.sql_tables.specs.Holds.{Holds, HoldsFirst}
 use Rattle.sql_tables.specs.Layouts.{IsRising, Layout, account_layout, authorization_layout, challenge_layout, formatted_layout, key_layout, nonce_layout}
 use Rattle.sql_tables.specs.Layouts.{order_layout}
-use Rattle.sql_tables.specs.Sorted.{sorted_by}
+use Rattle.sql_tables.specs.{Holds.Holds, Holds.HoldsFirst, Sorted.sorted_by}
 use Rattle.sql_tables.proofs.Sorting.{each_sorted, sorted_rises}
-use Rattle.sql_read.specs.BookShown.{HoldsIn}
-use Rattle.sql_read.specs.declared.formats.Format.{Format}
 use Rattle.sql_read.specs.declared.formats.Format.TheVariants.{First, Second}
+use Rattle.sql_read.specs.{BookShown.HoldsIn, declared.formats.Format.Format}
 use Rattle.sql_read.proofs.{FoundRows.Keeps, KeyedReadings.HasRowsIn, Lists.each_map_sorted}
 use Rattle.sql_read.proofs.TableFacts.{account_facts, authorization_facts, challenge_facts, columns, formatted_facts, key_facts, meta_facts, nonce_facts}
 use Rattle.sql_read.proofs.TableFacts.{order_facts, summary_facts}

@@ -1,39 +1,26 @@
 -- What look-ups of challenges find: each beside the key of its answer, where it has one.
-use Rattle.std.proofs.Common.{◌==◌, ℕ, Bool, List, [], ◌∷◌, map, filter, Option, Some, None, refl, subst, ◌∙◌}
-use Rattle.std.specs.{Prelude.nat_lt, Prelude.option_map, List.cons_option}
-use Rattle.sqlite.specs.Held.{Held, state}
-use Rattle.sqlite.specs.Store.{Ghosts}
+use Rattle.std.proofs.Common.{◌==◌, ℕ, Bool, List, [], ◌∷◌, map, filter, refl, subst, ◌∙◌, arith}
+use Rattle.std.specs.{Prelude.nat_lt}
+use Rattle.sqlite.specs.{Held.Held, Held.state, Store.Ghosts}
 use Rattle.sqlite_sql.specs.{Query.as_count, Term.Term, Term.eval}
 use Rattle.sqlite_value.specs.Order.{Row}
-use Rattle.store_columns.specs.Flat.{answer_key, bare_row, challenge_rows, key_rows}
-use Rattle.store_columns.specs.Limits.{IfRecorded, IsStoredChallenge, IsStoredKey}
-use Rattle.store_columns.specs.TextColumns.{HasTextChallenge}
-use Rattle.store_columns.specs.declared.columns.{AnswerKey.AnswerKey, Owned.Owned}
-use Rattle.model_laws.proofs.Basics.{each, each_both, each_of_map}
-use Rattle.model_laws.proofs.Keeps.{each-filter}
-use Rattle.desk_model.specs.{Kept.EachOf, Tables.Tables}
-use Rattle.desk_model.specs.declared.{objects.Answer.Answer, rows.ChallengeRow.ChallengeRow}
+use Rattle.store_columns.specs.{Flat.answer_key, Flat.bare_row, Flat.challenge_rows, Flat.key_rows, Limits.IfRecorded, Limits.IsStoredChallenge}
+use Rattle.store_columns.specs.{Limits.IsStoredKey, TextColumns.HasTextChallenge, declared.columns.AnswerKey.AnswerKey, declared.columns.Owned.Owned}
+use Rattle.model_laws.proofs.{Basics.each, Basics.each_both, Basics.each_of_map, Keeps.each-filter}
+use Rattle.desk_model.specs.{Kept.EachOf, Tables.Tables, declared.rows.ChallengeRow.ChallengeRow}
 use Rattle.store_book.specs.IsBook.{IsStoredBook}
 use Rattle.sql_schema.specs.Schema.{desk_schema}
 use Rattle.sql_schema.specs.declared.challenges.TheConstants as chall
-use Rattle.sql_tables.specs.{Holds.Holds, Sorted.sorted_by}
-use Rattle.sql_tables.specs.Layouts.{challenge_layout, key_layout}
-use Rattle.sql_tables.proofs.AnswerKeys.{keys_apart}
-use Rattle.sql_tables.proofs.Sorting.{each_sorted, filter_ascending, filter_number, sorted_rises}
-use Rattle.sql_read.specs.{Bounded.bounded, Joined.keyed_row, Looking.Finds, Queries.number}
+use Rattle.sql_tables.specs.{Holds.Holds, Sorted.sorted_by, Layouts.challenge_layout, Layouts.key_layout}
+use Rattle.sql_tables.proofs.{AnswerKeys.keys_apart, Sorting.each_sorted, Sorting.filter_ascending, Sorting.filter_number, Sorting.sorted_rises}
 use Rattle.sql_read.specs.Spelled.{FitsKeyed, keyed_in}
-use Rattle.sql_read.specs.declared.formats.Format.TheVariants.{Second}
-use Rattle.sql_read.proofs.AboveRows.{challenges_from}
-use Rattle.sql_read.proofs.Answered.{IsReadingFrom, all_rows, by, first_row}
-use Rattle.sql_read.proofs.{Failing.join_fails, FoundRows.finds_shown, KeyRows.keys_own, UnderLemmas.own_ascend}
+use Rattle.sql_read.specs.{Bounded.bounded, Joined.keyed_row, Looking.Finds, Queries.number, declared.formats.Format.TheVariants.Second}
 use Rattle.sql_read.proofs.JoinParts.{HasTextKeyed, IsStoredKeyed, keyed-apart, keyed_back, keyed_columns, keyed_fits, keyed_from, keyed_params, keyed_project}
-use Rattle.sql_read.proofs.KeptRows.{challenges_kept}
-use Rattle.sql_read.proofs.KeyedReadings.{cut}
-use Rattle.sql_read.proofs.KeyedRows.{AreTest, HasChallenges, HasOwnKey, keyed_shown}
-use Rattle.sql_read.proofs.Lists.{each_limited}
-use Rattle.sql_read.proofs.LookUpReadings.{challenge_above_reading, challenges_of_reading, is_equal, is_higher}
-use Rattle.sql_read.proofs.TableFacts.{challenge_facts, columns}
-use Rattle.sql_read.proofs.Tests.{above_bounded, above_test, number_test, same_bounded}
+use Rattle.sql_read.proofs.{AboveRows.challenges_from, Answered.IsReadingFrom, Answered.all_rows, Answered.by, Answered.first_row, Failing.join_fails}
+use Rattle.sql_read.proofs.{FoundRows.finds_shown, KeyRows.keys_own, UnderLemmas.own_ascend, KeptRows.challenges_kept, KeyedReadings.cut, KeyedRows.AreTest}
+use Rattle.sql_read.proofs.{KeyedRows.HasChallenges, KeyedRows.HasOwnKey, KeyedRows.keyed_shown, Lists.each_limited, LookUpReadings.challenge_above_reading}
+use Rattle.sql_read.proofs.{LookUpReadings.challenges_of_reading, LookUpReadings.is_equal, LookUpReadings.is_higher, TableFacts.challenge_facts}
+use Rattle.sql_read.proofs.{TableFacts.columns, Tests.above_bounded, Tests.above_test, Tests.number_test, Tests.same_bounded}
 
 -- ---- challenges in a database
 
@@ -48,14 +35,7 @@ all_keys T = sorted_by key_layout.key (key_rows (challenge_rows T.authorizations
 -- the key of each answer is in its limits
 stored_keys : (cs : List (Owned ChallengeRow)) → EachOf IsStoredKey (key_rows cs) → EachOf (λ c. IfRecorded IsStoredKey (answer_key c.row)) cs
 stored_keys [] h = tt
-stored_keys (c ∷ cs) h = by c.row.answered (stored_keys cs) h
-  where
-    by : (a : Option Answer) → (EachOf IsStoredKey (key_rows cs) → EachOf (λ c. IfRecorded IsStoredKey (answer_key c.row)) cs)
-        → EachOf IsStoredKey (cons_option (option_map (λ (a : Answer). record { challenge = c.row.number; thumb = a.thumb }) a) (key_rows cs))
-        → IfRecorded IsStoredKey (option_map (λ (a : Answer). record { challenge = c.row.number; thumb = a.thumb }) a)
-        × EachOf (λ c. IfRecorded IsStoredKey (answer_key c.row)) cs
-    by None later h = (tt, later h)
-    by (Some a) later h = (h.0, later h.1)
+stored_keys (c ∷ cs) h = grind (arith, (stored_keys cs))
 
 module _ {S : Type 0} (g : Ghosts S) (old : Held S) (T : Tables) (has : Holds (state g old).now T) where
   -- each has its own key

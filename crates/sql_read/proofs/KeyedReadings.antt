@@ -1,24 +1,19 @@
 -- What a reading gives of a table that has a number as its key.
-use Rattle.std.proofs.Common.{◌≡◌, ℕ, List, [], ◌∷◌, map, filter, refl, ap, ◌∙◌}
-use Rattle.std.proofs.lemmas.{Simd.map-map, List.map-id}
+use Rattle.std.proofs.Common.{◌≡◌, ℕ, List, [], ◌∷◌, map, filter, refl, ap, ◌∙◌, rules}
+use Rattle.std.proofs.{lemmas.Simd.map-map, lemmas.List.map-id}
 use Rattle.sqlite_value.specs.Order.{Row}
-use Rattle.sqlite_sql.specs.Query.{as_count, limited}
-use Rattle.sqlite_sql.specs.Term.{Term, eval}
-use Rattle.sqlite.specs.{Effect.Database, Schema.Schema}
-use Rattle.sqlite.specs.State.{State, Shown}
+use Rattle.sqlite_sql.specs.{Query.as_count, Query.limited, Term.Term, Term.eval}
+use Rattle.sqlite.specs.{Effect.Database, Schema.Schema, State.State, State.Shown}
 use Rattle.model_laws.proofs.RowLists.{ascends_filter}
 use Rattle.sql_tables.specs.Layouts.{IsRising, Layout}
 use Rattle.sql_read.proofs.Answered.{all_rows, answers_up_to, beside, by, picked, shown_in_order, strictly}
-use Rattle.sql_read.proofs.Lists.{as_it_is, filter-all, limited-map, map-same}
+use Rattle.sql_read.proofs.Lists.{as_it_is, filter-all, limited-map}
 use Rattle.sql_read.proofs.TableFacts.{IsReadingOf, TableFacts, cells, columns, picks}
 
 -- what is read of rows is what they spell
 pub columns_of : {Y C : Type 0} (spelled : Row → C) (row : C → Row) (columns : Y → C) → ((c : C) → spelled (row c) ≡ c) → (ys : List Y) (rows : List Row)
     → rows ≡ map (λ y. row (columns y)) ys → map spelled rows ≡ map columns ys
-columns_of spelled row columns back ys rows are =
-    ap (map spelled) are
-    ∙ map-map spelled (λ y. row (columns y)) ys
-    ∙ map-same (λ y. spelled (row (columns y))) columns ys (λ y. back (columns y))
+columns_of spelled row columns back ys rows are = search (rules, map-map)
 
 -- as many rows as a statement shows at most
 abbrev pub cut : {X : Type 0} → Term → Row → List X → List X

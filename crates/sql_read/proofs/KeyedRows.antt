@@ -1,32 +1,24 @@
 -- What a join with the keys of answers shows: each challenge that passes the tests, beside the key of its answer, where it has one.
-use Rattle.std.proofs.Common.{◌≡◌, ◌++◌, ◌==◌, ℕ, pos, Bool, cond, if◌then◌else◌, List, [], ◌∷◌, map, filter, flat_map}
-use Rattle.std.proofs.Common.{Option, None, Some, option_map, option_to_list, refl, ap, ◌∙◌, append-nil}
-use Rattle.std.specs.List.{list_all}
+use Rattle.std.proofs.Common.{◌≡◌, ◌++◌, ◌==◌, ℕ, pos, Bool, cond, if◌then◌else◌, List, [], ◌∷◌, map, filter, flat_map, Option, None, Some, option_map}
+use Rattle.std.proofs.Common.{option_to_list, refl, ap, ◌∙◌, append-nil, rules}
 use Rattle.std.proofs.lemmas.Simd.{map-map}
-use Rattle.sqlite.specs.declared.types.Value.TheVariants.{Int}
-use Rattle.sqlite.specs.State.{State, Shown}
+use Rattle.std.specs.List.{list_all}
+use Rattle.sqlite.specs.{declared.types.Value.TheVariants.Int, State.State, State.Shown}
 use Rattle.sqlite_value.specs.Order.{Row, column}
 use Rattle.sqlite_trees.specs.Tree.{Trees}
-use Rattle.sqlite_sql.specs.Program.{overlay}
 use Rattle.sqlite_sql.specs.Query.{Output, as_count, end, left, matches, or_nulls, output}
-use Rattle.sqlite_sql.specs.Term.{Env, Term, eval, holds}
-use Rattle.store_columns.specs.Columns.{challenge_columns, key_columns}
-use Rattle.store_columns.specs.Flat.{answer_key, bare_row}
-use Rattle.store_columns.specs.Limits.{IsStoredChallenge}
-use Rattle.store_columns.specs.declared.columns.{AnswerKey.AnswerKey, Owned.Owned}
+use Rattle.sqlite_sql.specs.{Program.overlay, Term.Env, Term.Term, Term.eval, Term.holds}
+use Rattle.store_columns.specs.{Columns.challenge_columns, Columns.key_columns, Flat.answer_key, Flat.bare_row, Limits.IsStoredChallenge}
+use Rattle.store_columns.specs.{declared.columns.AnswerKey.AnswerKey, declared.columns.Owned.Owned}
 use Rattle.model_laws.specs.Ordered.{Ascends}
 use Rattle.model_laws.proofs.{Basics.each_both, RowLists.ascends_filter}
-use Rattle.desk_model.specs.Kept.{EachOf}
-use Rattle.desk_model.specs.declared.rows.ChallengeRow.{ChallengeRow}
+use Rattle.desk_model.specs.{Kept.EachOf, declared.rows.ChallengeRow.ChallengeRow}
 use Rattle.sql_schema.specs.Schema.{desk_schema}
-use Rattle.sql_tables.specs.Images.{challenge_image, challenge_params, key_image}
-use Rattle.sql_tables.specs.Layouts.{challenge_layout}
+use Rattle.sql_tables.specs.{Images.challenge_image, Images.challenge_params, Images.key_image, Layouts.challenge_layout}
 use Rattle.sql_read.specs.Joined.{keyed_row}
 use Rattle.sql_read.proofs.Answered.{IsReadingFrom, all_rows, answers_from, by, picked_from, shown_in_order, strictly}
 use Rattle.sql_read.proofs.JoinParts.{key_or_nulls, keyed_columns, keyed_from, keyed_params, keyed_project, on_key}
-use Rattle.sql_read.proofs.KeyedReadings.{cut}
-use Rattle.sql_read.proofs.Lists.{as_it_is, filter-map, limited-map, map-same}
-use Rattle.sql_read.proofs.{SideBySide.each_joined, Tests.number_test}
+use Rattle.sql_read.proofs.{KeyedReadings.cut, Lists.as_it_is, Lists.filter-map, Lists.limited-map, Lists.map-same, SideBySide.each_joined, Tests.number_test}
 
 -- ---- keys
 
@@ -41,13 +33,11 @@ HasOwnKey keys c = filter (λ k. k.challenge == c.row.number) keys ≡ option_to
 
 -- where there is none, NULL stands in its place
 key_stands : (o : Option AnswerKey) → or_nulls (map key_image (option_to_list o)) ≡ key_cells o ∷ []
-key_stands None = refl
-key_stands (Some k) = refl
+key_stands o = search rules
 
 -- and is shown
 pub key_shows : (o : Option AnswerKey) → column (key_cells o) 0 ∷ column (key_cells o) 2 ∷ [] ≡ key_or_nulls (option_map key_columns o)
-key_shows None = refl
-key_shows (Some k) = refl
+key_shows o = search rules
 
 -- ---- rows side by side
 

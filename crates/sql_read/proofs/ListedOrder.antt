@@ -1,39 +1,26 @@
 -- What orders list stands by order, then by place; what a look-up finds of it.
-use Rattle.std.proofs.Common.{◌≡◌, inl, inr, ℕ, ◌+◌, ◌<◌, pos, Bool, List, [], ◌∷◌, ◌++◌, map, filter, Ordering, Less, Equal, refl, sym, ap, ◌∙◌, arith}
-use Rattle.std.specs.Prelude.{◌==◌}
-use Rattle.std.specs.{List.AllByRecursion, List.Sorted.IsStrictlySortedBy, Ordering.ordering_then}
-use Rattle.std.proofs.lemmas.List.Kept.{IsStrictlySortedBy-filter}
-use Rattle.sqlite.specs.declared.types.Value.TheVariants.{Int}
-use Rattle.sqlite_value.specs.Order.{Row, value_cmp}
+use Rattle.std.proofs.Common.{◌≡◌, ℕ, ◌+◌, ◌<◌, pos, Bool, List, [], ◌∷◌, ◌++◌, map, filter, Ordering, Less, refl, sym, ◌∙◌, arith, rules}
+use Rattle.std.proofs.{lemmas.List.Kept.IsStrictlySortedBy-filter}
+use Rattle.std.specs.{Prelude.◌==◌, List.AllByRecursion, List.Sorted.IsStrictlySortedBy}
+use Rattle.sqlite.specs.{declared.types.Value.TheVariants.Int, Held.Held, Held.state, State.Shown, Store.Ghosts}
+use Rattle.sqlite_value.specs.Order.{Row}
 use Rattle.sqlite_value.proofs.OrderLemmas.{value_cmp-Int}
 use Rattle.sqlite_trees.proofs.ListLemmas.{IsPermutation-filter}
-use Rattle.sqlite_sql.specs.Query.{Output, output_cmp}
-use Rattle.sqlite_sql.specs.Term.{Term}
-use Rattle.sqlite.specs.Held.{Held, state}
-use Rattle.sqlite.specs.{State.Shown, Store.Ghosts}
-use Rattle.store_columns.specs.{Columns.listed_columns, Limits.IsStoredListed}
-use Rattle.store_columns.specs.Flat.{listed_rows, owned_by}
-use Rattle.store_columns.specs.declared.columns.Owned.{Owned}
+use Rattle.sqlite_sql.specs.{Query.Output, Query.output_cmp, Term.Term}
+use Rattle.store_columns.specs.{Columns.listed_columns, Limits.IsStoredListed, Flat.listed_rows, Flat.owned_by, declared.columns.Owned.Owned}
 use Rattle.store_columns.proofs.RowsApart.{listed-apart, table-apart}
 use Rattle.model_laws.proofs.{Keeps.each-filter, Basics.each_all}
 use Rattle.model_laws.specs.Ordered.{Ascends}
-use Rattle.desk_model.specs.{Kept.EachOf, Tables.Tables}
-use Rattle.desk_model.specs.declared.rows.{Listed.Listed, OrderRow.OrderRow}
-use Rattle.sql_tables.specs.Hidden.{hidden, row_of}
-use Rattle.sql_tables.specs.Holds.{Holds}
-use Rattle.sql_tables.specs.Images.{listed_cells, listed_params}
-use Rattle.sql_tables.proofs.Keyed.{ranked, three}
-use Rattle.sql_read.specs.{Bounded.bounded, Looking.Finds, Queries.number}
-use Rattle.sql_read.specs.Spelled.{FitsListed, listed_in}
+use Rattle.desk_model.specs.{Kept.EachOf, Tables.Tables, declared.rows.Listed.Listed, declared.rows.OrderRow.OrderRow}
+use Rattle.sql_tables.specs.{Hidden.hidden, Hidden.row_of, Holds.Holds, Images.listed_cells, Images.listed_params}
+use Rattle.sql_read.specs.{Bounded.bounded, Looking.Finds, Queries.number, Spelled.FitsListed, Spelled.listed_in}
 use Rattle.sql_schema.specs.Schema.{desk_schema}
 use Rattle.store_book.specs.IsBook.{IsStoredBook}
 use Rattle.sql_schema.specs.declared.listed.TheConstants as ord_authz
-use Rattle.sql_read.proofs.Answered.{IsReading, all_rows, answers, by, less, passes, picked, shown_in_order}
-use Rattle.sql_read.proofs.{Failing.query_fails, KeyedReadings.columns_of}
-use Rattle.sql_read.proofs.FoundRows.{filter-each, table_rows}
-use Rattle.sql_read.proofs.LookUpReadings.{is_equal, listed_by_reading}
-use Rattle.sql_read.proofs.Tests.{number_test, same_bounded}
+use Rattle.sql_read.proofs.Answered.{IsReading, all_rows, answers, by, passes, picked, shown_in_order}
 use Rattle.sql_read.proofs.TableColumns.{listed_back, listed_fits, listed_project}
+use Rattle.sql_read.proofs.{Failing.query_fails, KeyedReadings.columns_of, FoundRows.filter-each, FoundRows.table_rows, LookUpReadings.is_equal}
+use Rattle.sql_read.proofs.{LookUpReadings.listed_by_reading, Tests.number_test, Tests.same_bounded}
 
 -- ---- by order, then by place
 
@@ -47,24 +34,12 @@ ranks tests l k = output_cmp (picked 6 tests listed_project (by 1 ∷ by 2 ∷ [
 
 -- a lower order comes first
 lower_order : (tests : List Term) (l k : Owned Listed) → l.owner < k.owner → ranks tests l k ≡ Less
-lower_order tests l k low =
-    ap (λ o. ordering_then o (ordering_then (value_cmp (Int (pos l.row.place)) (Int (pos k.row.place))) Equal))
-    (value_cmp-Int (pos l.owner) (pos k.owner) ∙ less l.owner k.owner low)
-
--- a number is as high as itself
-tied : (a : ℕ) → three a a ≡ Equal
-tied a = elim (ranked a a) [
-  | inl below ↦ absurd (omega (arith, below.low))
-  | inr (inl same) ↦ same.ranks
-  | inr (inr above) ↦ absurd (omega (arith, above.high))
-]
+lower_order tests l k low = search (rules, value_cmp-Int)
 
 -- and in one order a lower place
 lower_place : (tests : List Term) (n : ℕ) (l k : Listed) → l.place < k.place
     → ranks tests (record { owner = n; row = l }) (record { owner = n; row = k }) ≡ Less
-lower_place tests n l k low =
-    ap (λ o. ordering_then o (ordering_then (value_cmp (Int (pos l.place)) (Int (pos k.place))) Equal)) (value_cmp-Int (pos n) (pos n) ∙ tied n)
-    ∙ ap (λ o. ordering_then o Equal) (value_cmp-Int (pos l.place) (pos k.place) ∙ less l.place k.place low)
+lower_place tests n l k low = search (rules, value_cmp-Int)
 
 -- rows of higher orders
 abbrev AreAbove : ℕ → List (Owned Listed) → Type 0
@@ -102,9 +77,7 @@ pub listed_strictly : (tests : List Term) (n : ℕ) (os : List OrderRow) → Asc
     → IsStrictlySortedBy (ranks tests) (listed_rows os)
 unfolding IsStrictlySortedBy
 listed_strictly tests n [] up places = tt
-listed_strictly tests n (o ∷ os) up places =
-    order_first tests o.number 1 o.listed (listed_rows os) places.0 (listed_above o.number (o.number + 1) os (omega arith) up.1)
-    (listed_strictly tests (o.number + 1) os up.1 places.1)
+listed_strictly tests n (o ∷ os) up places = grind (arith, order_first, listed_above, (listed_strictly tests (o.number + 1) os up.1 places.1))
 
 -- ---- look-ups
 

@@ -1,31 +1,20 @@
 -- What the look-up of the orders that list an authorization finds: each as often as it lists it.
-use Rattle.std.proofs.Common.{◌≡◌, ◌==◌, ℕ, List, [], ◌∷◌, map, filter, flat_map, refl, sym, ap, ◌∙◌}
-use Rattle.sqlite.specs.Held.{Held, state}
-use Rattle.sqlite.specs.Store.{Ghosts}
+use Rattle.std.proofs.Common.{◌≡◌, ◌==◌, ℕ, List, [], ◌∷◌, map, filter, flat_map, refl, rules}
+use Rattle.sqlite.specs.{Held.Held, Held.state, Store.Ghosts}
 use Rattle.sqlite_trees.proofs.ListLemmas.{flat_map-map}
 use Rattle.store_columns.specs.{Columns.order_columns, Flat.listed_rows, Flat.without_listed, Limits.IsStoredOrder, TextColumns.HasTextOrder}
 use Rattle.store_columns.proofs.RowsApart.{orders-apart}
-use Rattle.model_laws.proofs.Basics.{each_all, each_of_map}
-use Rattle.model_laws.proofs.Keeps.{each-filter}
-use Rattle.desk_model.specs.{Kept.EachOf, Tables.Tables}
-use Rattle.desk_model.specs.declared.rows.OrderRow.{OrderRow}
+use Rattle.model_laws.proofs.{Basics.each_all, Basics.each_of_map, Keeps.each-filter}
+use Rattle.desk_model.specs.{Kept.EachOf, Tables.Tables, declared.rows.OrderRow.OrderRow}
 use Rattle.model_lives.specs.LookUps.{orders_listing, orders_numbered}
 use Rattle.store_book.specs.IsBook.{IsStoredBook}
 use Rattle.sql_schema.specs.declared.orders.TheConstants as ord
 use Rattle.sql_tables.specs.{Holds.Holds, Images.order_params}
-use Rattle.sql_read.specs.{Queries.number, Under.HasItsListed}
-use Rattle.sql_read.specs.Spelled.{FitsOrder, order_in}
-use Rattle.sql_read.specs.declared.formats.Format.TheVariants.{Second}
-use Rattle.sql_read.proofs.Answered.{all_rows, by}
-use Rattle.sql_read.proofs.{Failing.join_fails, KeptRows.orders_kept}
-use Rattle.sql_read.proofs.FoundRows.{FindsIn, finds_shown}
+use Rattle.sql_read.specs.{Queries.number, Under.HasItsListed, Spelled.FitsOrder, Spelled.order_in, declared.formats.Format.TheVariants.Second}
 use Rattle.sql_read.proofs.JoinParts.{listing_from, listing_project, listing_tests}
-use Rattle.sql_read.proofs.ListingRows.{its_orders, orders_shown}
-use Rattle.sql_read.proofs.Lists.{each_flat}
-use Rattle.sql_read.proofs.LookUpReadings.{listing_reading}
-use Rattle.sql_read.proofs.TableColumns.{order_back, order_fits}
-use Rattle.sql_read.proofs.TableFacts.{columns, order_facts}
-use Rattle.sql_read.proofs.UnderLemmas.{listing_is, orders_have}
+use Rattle.sql_read.proofs.{Answered.all_rows, Answered.by, Failing.join_fails, KeptRows.orders_kept, FoundRows.FindsIn, FoundRows.finds_shown}
+use Rattle.sql_read.proofs.{ListingRows.its_orders, ListingRows.orders_shown, Lists.each_flat, LookUpReadings.listing_reading, TableColumns.order_back}
+use Rattle.sql_read.proofs.{TableColumns.order_fits, TableFacts.columns, TableFacts.order_facts, UnderLemmas.listing_is, UnderLemmas.orders_have}
 
 -- the order of each place that lists the authorization
 abbrev pub listing_orders : Tables → ℕ → List OrderRow
@@ -33,15 +22,11 @@ listing_orders T n = flat_map (its_orders T.orders) (filter (λ l. l.row.authori
 
 -- what is so of each order
 of_each_order : (P : OrderRow → Type 0) (T : Tables) (n : ℕ) → EachOf P T.orders → EachOf P (listing_orders T n)
-of_each_order P T n h =
-    let ls = filter (λ l. l.row.authorization == n) (listed_rows T.orders) in
-    each_flat P (its_orders T.orders) ls (each_all _ ls (λ l. each-filter P (λ o. o.number == l.owner) T.orders h))
+of_each_order P T n h = search (rules, each_flat, each_all, each-filter)
 
 -- they are those of the model
 pub listing_are : (T : Tables) (n : ℕ) → listing_orders T n ≡ flat_map (orders_numbered T) (orders_listing T n)
-listing_are T n =
-    sym (flat_map-map (orders_numbered T) (λ l. l.owner) (filter (λ l. l.row.authorization == n) (listed_rows T.orders)))
-    ∙ ap (flat_map (orders_numbered T)) (listing_is T n)
+listing_are T n = search (rules, flat_map-map, listing_is)
 
 module _ {S : Type 0} (g : Ghosts S) (old : Held S) (T : Tables) (has : Holds (state g old).now T) where
   -- each has what it lists

@@ -1,36 +1,25 @@
 -- What the join of places with orders shows: the order of each place that lists an authorization.
-use Rattle.std.proofs.Common.{◌≡◌, ◌++◌, ◌&&◌, ◌==◌, ℕ, pos, true, cond, List, [], ◌∷◌, map, filter, flat_map, refl, sym, ap, ◌∙◌}
+use Rattle.std.proofs.Common.{◌≡◌, ◌&&◌, ◌==◌, ℕ, pos, true, cond, List, [], ◌∷◌, map, filter, flat_map, refl, sym, ap, ◌∙◌, arith}
+use Rattle.std.proofs.{lemmas.List.Kept.IsStrictlySortedBy-filter, lemmas.List.Sorted.IsPermutation-sym}
 use Rattle.std.specs.{List.list_all}
-use Rattle.std.proofs.lemmas.{List.map-append, List.Kept.IsStrictlySortedBy-filter, List.Sorted.IsPermutation-sym}
-use Rattle.sqlite.specs.declared.types.Value.TheVariants.{Int}
-use Rattle.sqlite.specs.State.{State, Shown}
+use Rattle.sqlite.specs.{declared.types.Value.TheVariants.Int, State.State, State.Shown}
 use Rattle.sqlite_value.specs.Order.{Row}
 use Rattle.sqlite_trees.specs.Tree.{Trees}
 use Rattle.sqlite_trees.proofs.ListLemmas.{IsPermutation-filter}
-use Rattle.sqlite_sql.specs.Program.{overlay}
-use Rattle.sqlite_sql.specs.Query.{Output, end, inner, matches, output}
-use Rattle.sqlite_sql.specs.Term.{Env, holds}
-use Rattle.store_columns.specs.{Columns.order_columns, Flat.listed_rows, Flat.without_listed, Limits.IsStoredListed}
-use Rattle.store_columns.specs.declared.columns.Owned.{Owned}
+use Rattle.sqlite_sql.specs.{Program.overlay, Query.Output, Query.end, Query.inner, Query.matches, Query.output, Term.Env, Term.holds}
+use Rattle.store_columns.specs.{Columns.order_columns, Flat.listed_rows, Flat.without_listed, Limits.IsStoredListed, declared.columns.Owned.Owned}
 use Rattle.store_book.proofs.KeyedRows.{each_moved}
 use Rattle.model_laws.specs.Ordered.{Ascends}
-use Rattle.model_laws.proofs.Basics.{each, each_all, each_of_map}
-use Rattle.model_laws.proofs.Keeps.{each-filter}
-use Rattle.desk_model.specs.Kept.{EachOf}
-use Rattle.desk_model.specs.declared.rows.{Listed.Listed, OrderRow.OrderRow}
+use Rattle.model_laws.proofs.{Basics.each, Basics.each_all, Basics.each_of_map, Keeps.each-filter}
+use Rattle.desk_model.specs.{Kept.EachOf, declared.rows.Listed.Listed, declared.rows.OrderRow.OrderRow}
 use Rattle.sql_schema.specs.Schema.{desk_schema}
 use Rattle.sql_schema.specs.declared.orders.TheConstants as ord
-use Rattle.sql_tables.specs.{Hidden.hidden, Hidden.row_of, Holds.HoldsListed}
-use Rattle.sql_tables.specs.Images.{listed_cells, order_image, order_params}
+use Rattle.sql_tables.specs.{Hidden.hidden, Hidden.row_of, Holds.HoldsListed, Images.listed_cells, Images.order_image, Images.order_params}
 use Rattle.sql_read.specs.{Bounded.bounded, Queries.number}
 use Rattle.sql_read.proofs.Answered.{all_rows, answers_from, by, picked_from, shown_in_order}
-use Rattle.sql_read.proofs.Beside.{HasOneOwner, one_owner}
-use Rattle.sql_read.proofs.JoinParts.{listing_from, listing_project, listing_tests}
-use Rattle.sql_read.proofs.ListedOrder.{listed_strictly, ranks}
-use Rattle.sql_read.proofs.Lists.{filter-map}
-use Rattle.sql_read.proofs.LookUpReadings.{listing_reading}
-use Rattle.sql_read.proofs.SideBySide.{each_joined, each_spread, tests_first}
-use Rattle.sql_read.proofs.Tests.{is_number, number_test, same_bounded}
+use Rattle.sql_read.proofs.{Beside.HasOneOwner, Beside.one_owner, JoinParts.listing_from, JoinParts.listing_project, JoinParts.listing_tests}
+use Rattle.sql_read.proofs.{ListedOrder.listed_strictly, ListedOrder.ranks, Lists.filter-map, LookUpReadings.listing_reading, SideBySide.each_joined}
+use Rattle.sql_read.proofs.{SideBySide.each_spread, SideBySide.tests_first, Tests.is_number, Tests.number_test, Tests.same_bounded}
 
 -- ---- the order of a place
 
@@ -55,10 +44,7 @@ HasOrder os l = HasOneOwner (λ (o : OrderRow). o.number) os l
 cells_are : (os : List OrderRow) (ls : List (Owned Listed)) → EachOf (HasOrder os) ls
     → map (λ l. first_cells (its_orders os l)) ls ≡ map order_cells (flat_map (its_orders os) ls)
 cells_are os [] h = refl
-cells_are os (l ∷ ls) h =
-    ap (λ xs. first_cells xs ∷ map (λ l. first_cells (its_orders os l)) ls) h.0.1.0
-    ∙ ap (λ r. order_cells h.0.0 ∷ r) (cells_are os ls h.1)
-    ∙ ap (λ xs. map order_cells (xs ++ flat_map (its_orders os) ls)) (sym h.0.1.0)
+cells_are os (l ∷ ls) h = grind (arith, (cells_are os ls h.1))
 
 -- ---- rows side by side
 
@@ -106,13 +92,7 @@ shows : (os : List OrderRow) (n : ℕ) (ts : List (ℕ × Owned Listed)) → Eac
     (flat_map (λ t. map (filled (number n) t) (its_orders os t.1)) ts)
     ≡ map (shown os) (map row_of ts)
 shows os n [] h = refl
-shows os n (t ∷ ts) h =
-    let q = picked_from all_rows listing_from listing_tests listing_project (by 1 ∷ by 2 ∷ []) in
-    let rest = flat_map (λ t. map (filled (number n) t) (its_orders os t.1)) ts in
-    map-append (output q) (map (filled (number n) t) (its_orders os t.1)) rest
-    ∙ ap (λ xs. map (output q) (map (filled (number n) t) xs) ++ map (output q) rest) h.0.1.0
-    ∙ ap (λ xs. (Int (pos t.1.owner) ∷ Int (pos t.1.row.place) ∷ [], first_cells xs) ∷ map (output q) rest) (sym h.0.1.0)
-    ∙ ap (λ os'. shown os t.1 ∷ os') (shows os n ts h.1)
+shows os n (t ∷ ts) h = grind (arith, (shows os n ts h.1))
 
 -- the orders that list the authorization are shown, by place
 pub orders_shown : (old new : State) (os : List OrderRow) (n : ℕ) (given : List Row) → old.now.schema ≡ desk_schema

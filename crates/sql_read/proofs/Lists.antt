@@ -1,9 +1,8 @@
 -- Lists: maps, filters and their order.
-use Rattle.std.proofs.Common.{◌≡◌, ℕ, zero, suc, take, List, [], ◌∷◌, ◌++◌, ◌&&◌, map, filter, flat_map, Bool, true, false, cond, Option, Some, None}
-use Rattle.std.proofs.Common.{refl, ap, subst, ◌∙◌}
+use Rattle.std.proofs.Common.{◌≡◌, ℕ, zero, suc, take, List, [], ◌∷◌, ◌++◌, ◌&&◌, map, filter, flat_map, Bool, true, cond, Option, refl, ap, subst, ◌∙◌, arith}
+use Rattle.std.proofs.Common.{rules}
+use Rattle.std.proofs.{lemmas.List.Sorted.IsPermutation-refl, lemmas.Grind.flat_map-append, lemmas.List.take-map}
 use Rattle.std.specs.List.Sorted.{IsPermutation}
-use Rattle.std.proofs.lemmas.List.Sorted.{IsPermutation-refl}
-use Rattle.std.proofs.lemmas.{Grind.flat_map-append, List.take-map}
 use Rattle.sqlite_trees.proofs.ListLemmas.{flat_map_none}
 use Rattle.sqlite_sql.specs.Query.{limited}
 use Rattle.model_laws.proofs.Basics.{each-append, each-map, each_of_map}
@@ -13,8 +12,7 @@ use Rattle.sql_tables.proofs.Sorting.{each_sorted}
 
 -- maps that agree
 pub map-same : {A B : Type 0} (f g : A → B) (xs : List A) → ((x : A) → f x ≡ g x) → map f xs ≡ map g xs
-map-same f g [] same = refl
-map-same f g (x ∷ xs) same = λ i. same x i ∷ map-same f g xs same i
+map-same f g xs h = search rules
 
 -- a test that holds always
 pub filter-all : {A : Type 0} (xs : List A) → filter (λ _. true) xs ≡ xs
@@ -24,12 +22,7 @@ filter-all (x ∷ xs) = ap (λ ys. x ∷ ys) (filter-all xs)
 -- a test of what a map gives
 pub filter-map : {A B : Type 0} (p : B → Bool) (f : A → B) (xs : List A) → filter p (map f xs) ≡ map f (filter (λ x. p (f x)) xs)
 filter-map p f [] = refl
-filter-map {A} p f (x ∷ xs) = by (p (f x)) (filter-map p f xs)
-  where
-    by : (b : Bool) → filter p (map f xs) ≡ map f (filter (λ x. p (f x)) xs)
-        → cond b (f x ∷ filter p (map f xs)) (filter p (map f xs)) ≡ map f (cond b (x ∷ filter (λ x. p (f x)) xs) (filter (λ x. p (f x)) xs))
-    by true ih = ap (λ ys. f x ∷ ys) ih
-    by false ih = ih
+filter-map {A} p f (x ∷ xs) = grind (arith, (filter-map p f xs))
 
 -- what holds of each item of these lists
 pub each_flat : {X Y : Type 0} (P : Y → Type 0) (f : X → List Y) (xs : List X) → EachOf (λ x. EachOf P (f x)) xs → EachOf P (flat_map f xs)
@@ -39,11 +32,7 @@ each_flat P f (x ∷ xs) h = each-append P (f x) (flat_map f xs) h.0 (each_flat 
 -- each item that passes a test does
 pub each_passing : {X : Type 0} (test : X → Bool) (xs : List X) → EachOf (λ x. test x ≡ true) (filter test xs)
 each_passing test [] = tt
-each_passing {X} test (x ∷ xs) = by (test x) refl (each_passing test xs)
-  where
-    by : (b : Bool) → test x ≡ b → EachOf (λ x. test x ≡ true) (filter test xs) → EachOf (λ x. test x ≡ true) (cond b (x ∷ filter test xs) (filter test xs))
-    by true is rest = (is, rest)
-    by false is rest = rest
+each_passing {X} test (x ∷ xs) = grind (arith, (each_passing test xs))
 
 -- equal lists are permutations
 pub as_it_is : {X : Type 0} (xs ys : List X) → xs ≡ ys → IsPermutation xs ys
@@ -53,25 +42,16 @@ as_it_is xs ys same = subst (λ zs. IsPermutation xs zs) same (IsPermutation-ref
 
 -- of two tests the last may come first
 pub last_first : {A : Type 0} (b c : Bool) (xs : List A) → cond (b && c) xs [] ≡ cond c (cond b xs []) []
-last_first true true xs = refl
-last_first true false xs = refl
-last_first false true xs = refl
-last_first false false xs = refl
+last_first b c xs = search rules
 
 -- all of it, or nothing
 pub kept : {A B : Type 0} (b : Bool) (f : A → List B) (xs : List A) → flat_map (λ x. cond b (f x) []) xs ≡ cond b (flat_map f xs) []
-kept true f xs = refl
-kept false f xs = flat_map_none (λ x. []) (λ x. refl) xs
+kept b f xs = search (rules, flat_map_none)
 
 -- what is made of the items that pass
 pub chosen : {A B : Type 0} (p : A → Bool) (f : A → List B) (xs : List A) → flat_map (λ x. cond (p x) (f x) []) xs ≡ flat_map f (filter p xs)
 chosen p f [] = refl
-chosen p f (x ∷ xs) = by (p x) (chosen p f xs)
-  where
-    by : (b : Bool) → flat_map (λ y. cond (p y) (f y) []) xs ≡ flat_map f (filter p xs)
-        → cond b (f x) [] ++ flat_map (λ y. cond (p y) (f y) []) xs ≡ flat_map f (cond b (x ∷ filter p xs) (filter p xs))
-    by true ih = ap (λ l. f x ++ l) ih
-    by false ih = ih
+chosen p f (x ∷ xs) = grind (arith, (chosen p f xs))
 
 -- of each item of each
 pub in_turn : {A B C : Type 0} (f : B → List C) (g : A → List B) (xs : List A) → flat_map f (flat_map g xs) ≡ flat_map (λ x. flat_map f (g x)) xs
@@ -94,13 +74,11 @@ each_take P (suc n) (x ∷ xs) h = (h.0, each_take P n xs h.1)
 
 -- up to a count
 pub each_limited : {X : Type 0} (P : X → Type 0) (count : Option ℕ) (xs : List X) → EachOf P xs → EachOf P (limited count xs)
-each_limited P None xs h = h
-each_limited P (Some n) xs h = each_take P n xs h
+each_limited P count xs h = search (rules, each_take)
 
 -- a map of these
 pub limited-map : {X Y : Type 0} (f : X → Y) (count : Option ℕ) (xs : List X) → limited count (map f xs) ≡ map f (limited count xs)
-limited-map f None xs = refl
-limited-map f (Some n) xs = take-map f n xs
+limited-map f count xs = search (rules, take-map)
 
 -- ---- rows by number
 

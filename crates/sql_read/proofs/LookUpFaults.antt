@@ -1,27 +1,21 @@
 -- By what a look-up fails: its calls one after another.
-use Rattle.std.proofs.Common.{◌≡◌, ◌++◌, inl, List, [], ◌∷◌, map, Result, Ok, Err, IfErr}
+use Rattle.std.proofs.Common.{◌≡◌, ◌++◌, List, [], ◌∷◌, map, Result, Err, IfErr, arith}
+use Rattle.std.proofs.{lemmas.List.Elements.All-from_recursion, lemmas.List.Elements.recursion_from_All}
 use Rattle.std.specs.List.{AllByRecursion}
-use Rattle.std.proofs.lemmas.List.Elements.{All-from_recursion, recursion_from_All}
-use Rattle.sqlite.specs.Order.{Row}
-use Rattle.sqlite.specs.State.{State}
+use Rattle.sqlite.specs.{Order.Row, State.State}
 use Rattle.desk_model.specs.Kept.{EachOf}
 use Rattle.sql_schema.specs.Stays.{Asks}
-use Rattle.sql_read.specs.LookUpFaults.{AreTableRows, IsOfMemory, IsOfMemoryOrDisk}
-use Rattle.sql_read.specs.declared.fault.ReadFault.{ReadFault}
-use Rattle.sql_read.specs.declared.fault.ReadFault.TheVariants.{Engine, NotARow}
-use Rattle.sql_read.proofs.MetFaults.{memory_is_none, met_behind, no_device}
+use Rattle.sql_read.specs.{LookUpFaults.AreTableRows, LookUpFaults.IsOfMemory, LookUpFaults.IsOfMemoryOrDisk, declared.fault.ReadFault.ReadFault}
 
 -- ---- faults
 
 -- memory was refused
 pub of_memory : (old new : State) (fault : ReadFault) → IsOfMemory fault → IsOfMemoryOrDisk old new fault
-of_memory old new (Engine e) is = (inl is, no_device old new e (memory_is_none e is))
-of_memory old new NotARow is = absurd is
+of_memory old new fault h = grind arith
 
 -- whatever came of it
 pub all_of_memory : {A : Type 0} (r : Result A ReadFault) (old new : State) → IfErr r IsOfMemory → IfErr r (IsOfMemoryOrDisk old new)
-all_of_memory (Ok a) old new is = tt
-all_of_memory (Err fault) old new is = of_memory old new fault is
+all_of_memory r old new h = grind arith
 
 -- a call that failed by this
 abbrev pub failed : (A : Type 0) → ReadFault → Result A ReadFault
@@ -30,9 +24,7 @@ failed A fault = Err fault
 -- behind a call that met nothing
 pub caused_behind : {A : Type 0} (r : Result A ReadFault) (old mid new : State) → Asks old mid → IfErr r (IsOfMemoryOrDisk mid new)
     → IfErr r (IsOfMemoryOrDisk old new)
-caused_behind (Ok a) old mid new asks is = tt
-caused_behind (Err (Engine e)) old mid new asks is = (is.0, met_behind old mid new e asks is.1)
-caused_behind (Err NotARow) old mid new asks is = absurd is
+caused_behind r old mid new h k = grind arith
 
 -- ---- rows in turn
 

@@ -1,24 +1,19 @@
 -- What the look-ups mean: one statement each, with as many parameters as are given, that compares no values of other kinds.
 use Rattle.std.proofs.Common.{ℕ, List, [], ◌∷◌, ◌++◌, codes, refl}
-use Rattle.sqlite.specs.{Listing.understood, Order.Row}
-use Rattle.sqlite.specs.declared.types.Value.TheVariants.{Text}
+use Rattle.sqlite.specs.{Listing.understood, Order.Row, declared.types.Value.TheVariants.Text}
 use Rattle.sqlite_value.specs.declared.keys.Collation.TheVariants.{Binary}
-use Rattle.sqlite_sql.specs.declared.ops.BinaryOp.TheVariants.{Compare}
-use Rattle.sqlite_sql.specs.declared.ops.CompareOp.TheVariants.{Eq, Gt, Lt}
-use Rattle.sqlite_sql.specs.Term.{Term, col, op2}
+use Rattle.sqlite_sql.specs.{declared.ops.BinaryOp.TheVariants.Compare, declared.ops.CompareOp.TheVariants.Eq, declared.ops.CompareOp.TheVariants.Gt}
+use Rattle.sqlite_sql.specs.{declared.ops.CompareOp.TheVariants.Lt, Term.Term, Term.col, Term.op2}
 use Rattle.sqlite_tied.specs.Compute.{everything}
 use Rattle.desk_model.specs.Document.{authorization_status_text, challenge_status_text, order_status_text}
-use Rattle.desk_model.specs.declared.status.AuthzStatus.{AuthzStatus}
+use Rattle.desk_model.specs.{declared.status.AuthzStatus.AuthzStatus, declared.status.OrderStatus.OrderStatus}
 use Rattle.desk_model.specs.declared.status.ChallengeStatus.TheVariants as challenge
-use Rattle.desk_model.specs.declared.status.OrderStatus.{OrderStatus}
 use Rattle.desk_model.specs.declared.status.OrderStatus.TheVariants as order
-use Rattle.model_lives.specs.declared.queries.AccountsWhere.{AccountsWhere}
+use Rattle.model_lives.specs.{declared.queries.AccountsWhere.AccountsWhere, declared.queries.AuthorizationsWhere.AuthorizationsWhere}
+use Rattle.model_lives.specs.{declared.queries.NoncesWhere.NoncesWhere, declared.queries.OrdersWhere.OrdersWhere}
 use Rattle.model_lives.specs.declared.queries.AccountsWhere.TheVariants as accounts_by
-use Rattle.model_lives.specs.declared.queries.AuthorizationsWhere.{AuthorizationsWhere}
 use Rattle.model_lives.specs.declared.queries.AuthorizationsWhere.TheVariants as authorizations_by
-use Rattle.model_lives.specs.declared.queries.NoncesWhere.{NoncesWhere}
 use Rattle.model_lives.specs.declared.queries.NoncesWhere.TheVariants as nonces_by
-use Rattle.model_lives.specs.declared.queries.OrdersWhere.{OrdersWhere}
 use Rattle.model_lives.specs.declared.queries.OrdersWhere.TheVariants as orders_by
 use Rattle.sql_schema.specs.Schema.{desk_schema}
 use Rattle.sql_schema.specs.declared.accounts.TheConstants as account

@@ -1,82 +1,53 @@
 -- What each look-up finds, whether by number, by a column, by a status or above a number.
-use Rattle.std.proofs.Common.{◌≡◌, ◌&&◌, ℕ, [], ◌∷◌, true, map, refl, subst, ◌∙◌, arith}
-use Rattle.std.specs.Prelude.{◌==◌, nat_lt, bytes_eq}
+use Rattle.std.proofs.Common.{◌≡◌, ℕ, [], ◌∷◌, true, map, refl, subst, ◌∙◌, rules}
 use Rattle.std.proofs.lemmas.List.{map-id}
-use Rattle.sqlite.specs.Held.{Held, state}
-use Rattle.sqlite.specs.Store.{Ghosts}
+use Rattle.std.specs.Prelude.{◌==◌, nat_lt}
+use Rattle.sqlite.specs.{Held.Held, Held.state, Store.Ghosts}
 use Rattle.store_columns.specs.Flat.{summarized, without_challenges, without_listed}
 use Rattle.store_columns.specs.Limits.{IsStoredAccount, IsStoredAuthorization, IsStoredNonce, IsStoredOrder}
-use Rattle.desk_model.specs.Document.{authorization_status_text, order_status_text}
 use Rattle.desk_model.specs.Tables.{Tables}
 use Rattle.desk_model.specs.declared.{objects.Nonce.Nonce, rows.AccountRow.AccountRow, rows.AuthorizationRow.AuthorizationRow, rows.OrderRow.OrderRow}
-use Rattle.desk_model.specs.declared.status.OrderStatus.TheVariants as order
 use Rattle.model_lives.specs.Above.{accounts_above, authorizations_above, first_of, orders_above}
-use Rattle.model_lives.specs.LookUps.{accounts_where, authorizations_where, nonces_where, orders_of, orders_where}
-use Rattle.model_lives.specs.LookUps.{wants_account, wants_authorization, wants_nonce, wants_order}
-use Rattle.model_lives.specs.declared.queries.AccountsWhere.{AccountsWhere}
-use Rattle.model_lives.specs.declared.queries.AccountsWhere.TheVariants as accounts_by
-use Rattle.model_lives.specs.declared.queries.AuthorizationsWhere.{AuthorizationsWhere}
-use Rattle.model_lives.specs.declared.queries.AuthorizationsWhere.TheVariants as authorizations_by
-use Rattle.model_lives.specs.declared.queries.NoncesWhere.{NoncesWhere}
-use Rattle.model_lives.specs.declared.queries.NoncesWhere.TheVariants as nonces_by
-use Rattle.model_lives.specs.declared.queries.OrdersWhere.{OrdersWhere}
-use Rattle.model_lives.specs.declared.queries.OrdersWhere.TheVariants as orders_by
+use Rattle.model_lives.specs.LookUps.{accounts_where, authorizations_where, nonces_where, orders_of, orders_where, wants_account, wants_authorization}
+use Rattle.model_lives.specs.LookUps.{wants_nonce, wants_order}
+use Rattle.model_lives.specs.{declared.queries.AccountsWhere.AccountsWhere, declared.queries.AuthorizationsWhere.AuthorizationsWhere}
+use Rattle.model_lives.specs.{declared.queries.NoncesWhere.NoncesWhere, declared.queries.OrdersWhere.OrdersWhere}
 use Rattle.sql_tables.specs.Holds.{Holds}
-use Rattle.sql_read.specs.Bounded.{bounded}
 use Rattle.sql_read.specs.Queries.{account_query, authorization_query, nonce_query, number, order_query}
+use Rattle.sql_read.specs.{Bounded.bounded, declared.formats.Format.TheVariants.Second}
 use Rattle.store_book.specs.IsBook.{IsStoredBook}
 use Rattle.sql_schema.specs.declared.accounts.TheConstants as account
 use Rattle.sql_schema.specs.declared.authorizations.TheConstants as authz
 use Rattle.sql_schema.specs.declared.meta.TheConstants as meta
 use Rattle.sql_schema.specs.declared.orders.TheConstants as ord
-use Rattle.sql_read.specs.declared.formats.Format.TheVariants.{Second}
-use Rattle.sql_read.proofs.Answered.{all_rows, first_row}
-use Rattle.sql_read.proofs.FoundRows.{FindsIn, finds}
 use Rattle.sql_read.proofs.KeptRows.{accounts_kept, authorizations_kept, meta_kept, nonces_kept, orders_kept, summaries_kept}
 use Rattle.sql_read.proofs.LookUpReadings.{account_above_reading, account_tests, accounts_asked, authorization_above_reading, authorization_tests}
-use Rattle.sql_read.proofs.LookUpReadings.{authorizations_asked, is_equal}
-use Rattle.sql_read.proofs.LookUpReadings.{is_higher, nonce_tests, nonces_asked, order_above_reading, order_tests, orders_asked, summaries_reading}
-use Rattle.sql_read.proofs.Readings.{meta_reading}
-use Rattle.sql_read.proofs.StatusTests.{authorization_status_test, order_status_test, order_waits}
-use Rattle.sql_read.proofs.Tests.{above_bounded, above_test, below_bounded, below_test, number_test, number_text_test, same_bounded, text_below_test, text_test}
+use Rattle.sql_read.proofs.LookUpReadings.{authorizations_asked, is_equal, is_higher, nonce_tests, nonces_asked, order_above_reading, order_tests, orders_asked}
+use Rattle.sql_read.proofs.LookUpReadings.{summaries_reading}
+use Rattle.sql_read.proofs.Tests.{above_bounded, above_test, below_test, number_test, number_text_test, same_bounded, text_below_test, text_test}
 use Rattle.sql_read.proofs.TableFacts.{account_facts, authorization_facts, meta_facts, nonce_facts, order_facts, picks, summary_facts}
+use Rattle.sql_read.proofs.{Answered.all_rows, Answered.first_row, FoundRows.FindsIn, FoundRows.finds, Readings.meta_reading}
 
 -- ---- SQL's tests are the model's, on rows in their limits
 
 -- of nonces
 nonce_agrees : (which : NoncesWhere) (x : Nonce) → IsStoredNonce x → picks nonce_facts (nonce_tests which) (nonce_query which).1 x ≡ wants_nonce which x
-nonce_agrees nonces_by.Any x k = refl
-nonce_agrees (nonces_by.Serial n) x k = number_test x.serial (bounded n) ∙ same_bounded x.serial n k.serial.1
-nonce_agrees (nonces_by.IssuedBefore t) x k = below_test x.issued (bounded t) ∙ below_bounded x.issued t (let m = k.issued in omega (arith, m))
+nonce_agrees which x h = search (rules, number_test, below_test)
 
 -- of accounts
 account_agrees : (which : AccountsWhere) (x : AccountRow) → IsStoredAccount x
     → picks account_facts (account_tests which) (account_query which).1 x ≡ wants_account which x
-account_agrees accounts_by.Any x k = refl
-account_agrees (accounts_by.Number n) x k = number_test x.number (bounded n) ∙ same_bounded x.number n k.number.1
-account_agrees (accounts_by.Key key) x k = text_test x.key key.now
+account_agrees which x h = search (rules, number_test, text_test)
 
 -- of orders
 order_agrees : (which : OrdersWhere) (x : OrderRow) → IsStoredOrder (without_listed x)
     → picks order_facts (order_tests which) (order_query which).1 x ≡ wants_order which x
-order_agrees orders_by.Any x k = refl
-order_agrees (orders_by.Number n) x k = number_test x.number (bounded n) ∙ same_bounded x.number n k.number.1
-order_agrees (orders_by.Past status m) x k =
-    text_below_test (order_status_text x.status) (order_status_text status) x.expires (bounded m)
-    ∙ (λ i. order_status_test x.status status i && below_bounded x.expires m (let e = k.expires in omega (arith, e)) i)
-order_agrees orders_by.Processing x k = text_test (order_status_text x.status) (order_status_text order.Processing) ∙ order_waits x.status
+order_agrees which x h = search (rules, number_test, text_below_test, text_test)
 
 -- of authorizations
 authorization_agrees : (which : AuthorizationsWhere) (x : AuthorizationRow) → IsStoredAuthorization (without_challenges x)
     → picks authorization_facts (authorization_tests which) (authorization_query which).1 x ≡ wants_authorization which x
-authorization_agrees authorizations_by.Any x k = refl
-authorization_agrees (authorizations_by.Number n) x k = number_test x.number (bounded n) ∙ same_bounded x.number n k.number.1
-authorization_agrees (authorizations_by.Account n) x k = number_test x.account (bounded n) ∙ same_bounded x.account n k.account.1
-authorization_agrees (authorizations_by.Named n base) x k =
-    number_text_test x.account (bounded n) x.name.base base.now ∙ (λ i. same_bounded x.account n k.account.1 i && bytes_eq x.name.base base.now)
-authorization_agrees (authorizations_by.Past status m) x k =
-    text_below_test (authorization_status_text x.status) (authorization_status_text status) x.expires (bounded m)
-    ∙ (λ i. authorization_status_test x.status status i && below_bounded x.expires m (let e = k.expires in omega (arith, e)) i)
+authorization_agrees which x h = search (rules, number_test, number_text_test, text_below_test)
 
 module _ {S : Type 0} (g : Ghosts S) (old : Held S) (T : Tables) (has : Holds (state g old).now T) (book : IsStoredBook T) where
   -- ---- queries

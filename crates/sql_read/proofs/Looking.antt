@@ -1,41 +1,29 @@
 -- Look-ups one after another, and what is made of what they found.
-use Rattle.std.proofs.Common.{◌≡◌, ℕ, List, Result, Ok, Err, IsErrAnd, map, subst, sym, arith}
+use Rattle.std.proofs.Common.{◌≡◌, ℕ, List, Result, Ok, Err, IsErrAnd, map, subst, sym, arith, rules}
 use Rattle.std.specs.Prelude.{IfErr, IfOk, IsErr, IsTrue, OnOk}
-use Rattle.std.proofs.lemmas.Result.{IfOk-from_err}
-use Rattle.sqlite.specs.{Order.Row, Store.Ghosts}
-use Rattle.sqlite.specs.Held.{Held, state}
-use Rattle.sqlite.specs.State.{HasCleanDisk}
-use Rattle.sqlite.specs.declared.error.Error.{Error}
+use Rattle.sqlite.specs.{Order.Row, Store.Ghosts, Held.Held, Held.state, State.HasCleanDisk, declared.error.Error.Error}
 use Rattle.desk_model.specs.{Kept.EachOf, Tables.Tables}
 use Rattle.store_book.specs.IsBook.{IsStoredBook}
 use Rattle.sql_schema.specs.Stays.{Asks}
-use Rattle.sql_schema.proofs.StaysLemmas.{asks_then}
 use Rattle.sql_tables.specs.Holds.{Holds}
-use Rattle.sql_tables.proofs.Holding.{holds_still}
-use Rattle.sql_read.specs.{Failures.MayRead, Reads.ReadsRows}
-use Rattle.sql_read.specs.{Looking.Finds, Looking.LooksFor, Looking.LooksUp, Selecting.IsQuery}
-use Rattle.sql_read.specs.LookUpFaults.{AreTableRows, IsOfMemory, IsOfMemoryOrDisk}
-use Rattle.sql_read.specs.declared.fault.ReadFault.{ReadFault}
-use Rattle.sql_read.specs.declared.fault.ReadFault.TheVariants.{Engine}
-use Rattle.sql_read.proofs.{Failing.may_read_still, Results.unchanged_after}
-use Rattle.sql_read.proofs.LookUpFaults.{all_of_memory, caused_behind}
+use Rattle.sql_read.specs.{Failures.MayRead, Reads.ReadsRows, Looking.Finds, Looking.LooksFor, Looking.LooksUp, Selecting.IsQuery, LookUpFaults.AreTableRows}
+use Rattle.sql_read.specs.{LookUpFaults.IsOfMemory, LookUpFaults.IsOfMemoryOrDisk, declared.fault.ReadFault.ReadFault}
+use Rattle.sql_read.specs.{declared.fault.ReadFault.TheVariants.Engine}
+use Rattle.sql_read.proofs.LookUpFaults.{all_of_memory}
 
 -- whatever a query is called
 pub finds_as : {S R C : Type 0} {g : Ghosts S} {spelled : Row → C} {Fits : Row → Type 0} {write : R → C} {IsStored : R → Type 0} {ask other : List ℕ × Row}
     {old : Held S} {found : List R}
     → other ≡ ask → Finds g spelled Fits write IsStored ask old found → Finds g spelled Fits write IsStored other old found
-finds_as {S} {R} {C} {g} {spelled} {Fits} {write} {IsStored} {ask} {other} {old} {found} same finds =
-    subst (λ a. Finds g spelled Fits write IsStored a old found) (sym same) finds
+finds_as {S} {R} {C} {g} {spelled} {Fits} {write} {IsStored} {ask} {other} {old} {found} same finds = search rules
 
 -- what was found said more
 pub found_so : {A : Type 0} (r : Result A ReadFault) {P Q : A → Type 0} → ((a : A) → P a → Q a) → IfOk r P → IfOk r Q
-found_so (Ok a) so p = so a p
-found_so (Err fault) so p = tt
+found_so r h k = search rules
 
 -- nothing was changed, whatever was made of it
 always : {A : Type 0} (r : Result A ReadFault) {Q : Type 0} → Q → OnOk r Q
-always (Ok a) q = q
-always (Err fault) q = tt
+always r h = search rules
 
 -- a query is looked up by reading the rows that it shows, and making rows of a desk of these
 module _ {S R C A B : Type 0} (g : Ghosts S) (spelled : Row → C) (Fits : Row → Type 0) (write : R → C) (IsStored : R → Type 0) (ask : List ℕ × Row)
@@ -77,12 +65,7 @@ rows_as {S} {A} {g} items {ask} {other} {old} {new} {read} same rows = subst (λ
 pub looked : {S W A : Type 0} {g : Ghosts S} {old new : Held S} {Such : Tables → W → Type 0} {Is : W → A → Type 0} {Are : Tables → A → Type 0}
     {r : Result A ReadFault} (pick : Tables → W) → ((T : Tables) → Holds (state g old).now T → IsStoredBook T → Such T (pick T))
     → ((T : Tables) → Holds (state g old).now T → IsStoredBook T → (a : A) → Is (pick T) a → Are T a) → LooksFor g old new Such Is r → LooksUp g old new Are r
-looked {r = r} pick such so look = record {
-  found = λ clean T has book. found_so r (so T has book) (look.found clean T has book (pick T) (such T has book));
-  caused = λ clean T has book may. look.caused clean T has book may (pick T) (such T has book);
-  unchanged = look.unchanged;
-  asks = look.asks;
-}
+looked {r = r} pick such so look = grind arith
 
 module _ {S W A : Type 0} {g : Ghosts S} {old new : Held S} {Such : Tables → W → Type 0} {Is : W → A → Type 0} where
   -- ---- in a desk's tables
@@ -144,12 +127,7 @@ pub stopped : {S W A : Type 0} {g : Ghosts S} {old new : Held S} {Such : Tables 
     → (HasCleanDisk (state g new) → (T : Tables) → Holds (state g old).now T → IsStoredBook T → MayRead (state g old) → (w : W) → Such T w
     → IfErr r (IsOfMemoryOrDisk (state g old) (state g new)))
     → Asks (state g old) (state g new) → LooksFor g old new Such Is r
-stopped {r = r} ended caused asks = record {
-  found = λ clean T has book w such. IfOk-from_err r _ ended;
-  caused = caused;
-  unchanged = λ clean. IfOk-from_err r _ ended;
-  asks = asks;
-}
+stopped {r = r} ended caused asks = grind arith
 
 -- a step behind another, which found what it looks by
 pub step_then : {S V W A B : Type 0} {g : Ghosts S} {old mid new : Held S} {Such : Tables → W → Type 0} {Is : W → A → Type 0} {Suits : Tables → V → Type 0}
@@ -157,21 +135,4 @@ pub step_then : {S V W A B : Type 0} {g : Ghosts S} {old mid new : Held S} {Such
     → ((T : Tables) → Holds (state g old).now T → IsStoredBook T → (v : V) → All T v → Such T (pick T v))
     → ((T : Tables) → (v : V) → All T v → Is (pick T v) a → Suits T v) → LooksFor g old mid Such Is (Ok a)
     → Asks (state g mid) (state g new) → (IsTrue (state g mid).is_open → LooksFor g mid new Suits Are r) → LooksFor g old new All Are r
-step_then {S} {V} {W} {A} {B} {g} {old} {mid} {new} {Such} {Is} {Suits} {All} {Are} {a} {r} pick such suits one asks next = record {
-  found = λ clean T has book v all.
-      let same = one.unchanged (honest clean) in
-      (next same.0.is_open).found clean T (holds_still (state g old) (state g mid) T same has) book v
-      (suits T v all (one.found (honest clean) T has book (pick T v) (such T has book v all)));
-  caused = λ clean T has book may v all.
-      let same = one.unchanged (honest clean) in
-      caused_behind r (state g old) (state g mid) (state g new) one.asks
-      ((next same.0.is_open).caused clean T (holds_still (state g old) (state g mid) T same has) book
-      (may_read_still (state g old) (state g mid) same one.asks may) v
-      (suits T v all (one.found (honest clean) T has book (pick T v) (such T has book v all))));
-  unchanged = λ clean.
-      unchanged_after r (state g old) (state g mid) (state g new) (one.unchanged (honest clean)) (λ is_open. (next is_open).unchanged clean);
-  asks = asks_then (state g old) (state g mid) (state g new) one.asks asks;
-}
-  where
-    honest : HasCleanDisk (state g new) → HasCleanDisk (state g mid)
-    honest clean = omega (arith, clean, asks.survives.clean)
+step_then {S} {V} {W} {A} {B} {g} {old} {mid} {new} {Such} {Is} {Suits} {All} {Are} {a} {r} pick such suits one asks next = grind arith

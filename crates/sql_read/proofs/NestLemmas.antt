@@ -1,17 +1,14 @@
 -- Rows that get their own under them, one after the other.
-use Rattle.std.proofs.Common.{◌≡◌, List, [], ◌∷◌, ◌++◌, arith, map, refl, sym, ap, subst, ◌∙◌, IfErr, IsErrAnd, IsTrue, Result}
-use Rattle.sqlite.proofs.{Callers.unchanged_then, StateLemmas.unchanged}
+use Rattle.std.proofs.Common.{◌≡◌, List, [], ◌∷◌, ◌++◌, arith, map, refl, sym, ap, subst, ◌∙◌, IfErr, IsErrAnd, IsTrue, Result, rules}
+use Rattle.sqlite.proofs.{StateLemmas.unchanged}
 use Rattle.sqlite.specs.State.{HasCleanDisk, IsUnchanged, State}
 use Rattle.desk_model.specs.{Kept.EachOf, Tables.Tables}
 use Rattle.sql_schema.specs.Stays.{Asks}
-use Rattle.sql_schema.proofs.StaysLemmas.{asks_nothing, asks_then}
 use Rattle.sql_tables.specs.Holds.{Holds}
 use Rattle.sql_tables.proofs.Holding.{holds_still}
-use Rattle.sql_read.specs.{Failures.MayRead, Held.ForHeld, LookUpFaults.IsOfMemoryOrDisk}
-use Rattle.sql_read.specs.declared.fault.ReadFault.{ReadFault}
+use Rattle.sql_read.specs.{Failures.MayRead, Held.ForHeld, LookUpFaults.IsOfMemoryOrDisk, declared.fault.ReadFault.ReadFault}
 use Rattle.store_book.specs.IsBook.{IsStoredBook}
-use Rattle.sql_read.proofs.{Failing.may_read_still, Results.failed_as}
-use Rattle.sql_read.proofs.LookUpFaults.{caused_behind, failed, with_whole}
+use Rattle.sql_read.proofs.{Failing.may_read_still, Results.failed_as, LookUpFaults.caused_behind, LookUpFaults.failed, LookUpFaults.with_whole}
 
 -- a map that ends in an item is that of a list that ends in one
 pub record EndsIn {X Y : Type 0} (f : X → Y) (ys : List Y) (y : Y) (xs : List X) : Type 0 where
@@ -75,11 +72,7 @@ pub record Filled {X Y : Type 0} (P : Tables → X → Type 0) (bare : X → Y) 
 
 -- none was yet
 pub filled_first : {X Y : Type 0} (P : Tables → X → Type 0) (bare : X → Y) (first : State) (rows : List X) → rows ≡ [] → Filled P bare first first [] rows
-filled_first P bare first rows none = record {
-  found = λ clean T has book open_. subst (AreFilled (P T) bare []) (sym none) (filled_none (P T) bare);
-  unchanged = λ clean open_. unchanged first open_;
-  asks = asks_nothing first;
-}
+filled_first P bare first rows none = search (rules, filled_none)
 
 -- one more call changed nothing
 pub filled_on : {X Y : Type 0} {P : Tables → X → Type 0} {bare : X → Y} {first old new : State} {read more : List Y} {rows filled : List X}
@@ -87,17 +80,7 @@ pub filled_on : {X Y : Type 0} {P : Tables → X → Type 0} {bare : X → Y} {f
     → (HasCleanDisk new → (T : Tables) → Holds old.now T → IsStoredBook T → IsTrue old.is_open → AreFilled (P T) bare read rows
     → AreFilled (P T) bare more filled)
     → Filled P bare first new more filled
-filled_on {X} {Y} {P} {bare} {first} {old} {new} before asks same step = record {
-  found = λ clean T has book open_.
-      let clean_old : HasCleanDisk old = omega (arith, clean, asks.survives.clean) in
-      let still = before.unchanged clean_old open_ in
-      step clean T (holds_still first old T still has) book still.0.is_open (before.found clean_old T has book open_);
-  unchanged = λ clean open_.
-      let clean_old : HasCleanDisk old = omega (arith, clean, asks.survives.clean) in
-      let still = before.unchanged clean_old open_ in
-      unchanged_then first old new still (same clean still.0.is_open);
-  asks = asks_then first old new before.asks asks;
-}
+filled_on {X} {Y} {P} {bare} {first} {old} {new} before asks same step = grind arith
 
 -- or it failed, as it does under a row that is like the one that is filled
 pub filled_failed : {X Y A : Type 0} {P : Tables → X → Type 0} {bare : X → Y} {first old new : State} {read : List Y} {rows : List X}

@@ -1,18 +1,13 @@
 -- What the look-up of places finds: what each order that waits lists, by place, each beside its authorization.
-use Rattle.std.proofs.Common.{◌≡◌, Bool, true, false, cond, List, [], ◌∷◌, map, filter, flat_map, Ordering, Less, refl, subst, sym, ap, ◌∙◌}
-use Rattle.std.specs.Prelude.{◌==◌}
-use Rattle.std.specs.{List.AllByRecursion, List.Sorted.IsPermutation, List.Sorted.IsStrictlySortedBy}
-use Rattle.std.proofs.lemmas.Simd.{map-map}
+use Rattle.std.proofs.Common.{◌≡◌, Bool, cond, List, [], ◌∷◌, map, filter, flat_map, Ordering, Less, refl, subst, sym, ap, ◌∙◌, arith}
+use Rattle.std.proofs.{lemmas.Simd.map-map}
+use Rattle.std.specs.{Prelude.◌==◌, List.AllByRecursion, List.Sorted.IsPermutation, List.Sorted.IsStrictlySortedBy}
 use Rattle.sqlite_value.specs.Order.{Row}
-use Rattle.sqlite_sql.specs.Program.{overlay}
-use Rattle.sqlite_sql.specs.Query.{output_cmp}
+use Rattle.sqlite_sql.specs.{Program.overlay, Query.output_cmp}
 use Rattle.sqlite_trees.proofs.ListLemmas.{IsPermutation-flat_map, IsPermutation-flat_map_each}
-use Rattle.sqlite.specs.Held.{Held, state}
-use Rattle.sqlite.specs.{State.Shown, Store.Ghosts}
+use Rattle.sqlite.specs.{Held.Held, Held.state, State.Shown, Store.Ghosts}
 use Rattle.store_columns.specs.Flat.{listed_rows, owned_by, without_challenges}
-use Rattle.store_columns.specs.Limits.{IsStoredAuthorization, IsStoredListed}
-use Rattle.store_columns.specs.TextColumns.{HasTextAuthorization}
-use Rattle.store_columns.specs.declared.columns.Owned.{Owned}
+use Rattle.store_columns.specs.{Limits.IsStoredAuthorization, Limits.IsStoredListed, TextColumns.HasTextAuthorization, declared.columns.Owned.Owned}
 use Rattle.store_book.specs.IsBook.{IsStoredBook}
 use Rattle.model_laws.specs.Ordered.{Ascends}
 use Rattle.model_laws.proofs.Basics.{each, each-append, each-map, each_all, each_of_map, each_parts}
@@ -22,19 +17,14 @@ use Rattle.desk_model.specs.{Kept.EachOf, Tables.Tables}
 use Rattle.desk_model.specs.declared.rows.{AuthorizationRow.AuthorizationRow, Listed.Listed, OrderRow.OrderRow}
 use Rattle.sql_schema.specs.declared.listed.TheConstants as ord_authz
 use Rattle.sql_tables.specs.{Hidden.row_of, Holds.Holds}
-use Rattle.sql_read.specs.Looking.{Finds}
-use Rattle.sql_read.specs.Spelled.{FitsPlace, place_in}
-use Rattle.sql_read.specs.declared.formats.Format.TheVariants.{Second}
+use Rattle.sql_read.specs.{Looking.Finds, Spelled.FitsPlace, Spelled.place_in, declared.formats.Format.TheVariants.Second}
 use Rattle.sql_read.proofs.Answered.{all_rows, answers_from, shown_strictly}
 use Rattle.sql_read.proofs.Beside.{HasOne, each_beside, each_pair, firsts, of_each, one_found, pairs}
-use Rattle.sql_read.proofs.{Failing.join_fails, FoundRows.finds_shown, KeptRows.authorizations_kept}
-use Rattle.sql_read.proofs.ListedOrder.{listed_strictly, ranks}
-use Rattle.sql_read.proofs.LookUpReadings.{places_reading}
 use Rattle.sql_read.proofs.PlaceParts.{HasTextPlace, IsStoredPlace, Place, place-apart, place_back, place_columns, place_fits, place_from, place_order}
 use Rattle.sql_read.proofs.PlaceParts.{place_params, place_project, place_tests}
 use Rattle.sql_read.proofs.PlaceRows.{all_shown, asked, authorization_at, bare_place, gathered, place_of, place_query, shown, waits}
-use Rattle.sql_read.proofs.TableFacts.{authorization_facts, columns}
-use Rattle.sql_read.proofs.UnderLemmas.{orders_own}
+use Rattle.sql_read.proofs.{Failing.join_fails, FoundRows.finds_shown, KeptRows.authorizations_kept, ListedOrder.listed_strictly, ListedOrder.ranks}
+use Rattle.sql_read.proofs.{LookUpReadings.places_reading, TableFacts.authorization_facts, TableFacts.columns, UnderLemmas.orders_own}
 
 -- ---- lists
 
@@ -46,8 +36,7 @@ each_kept P p (o ∷ os) h =
   where
     by : (b : Bool) → EachOf P (owned_by o.number o.listed) → EachOf P (listed_rows (filter p os))
         → EachOf P (listed_rows (cond b (o ∷ filter p os) (filter p os)))
-    by true own rest = each-append P (owned_by o.number o.listed) (listed_rows (filter p os)) own rest
-    by false own rest = rest
+    by b l k = grind (arith, each-append)
 
 -- an order of what a map gives is one of what it is given
 all_of_map : {X Y : Type 0} (P : Y → Type 0) (f : X → Y) (xs : List X) → AllByRecursion P (map f xs) → AllByRecursion (λ x. P (f x)) xs

@@ -1,22 +1,15 @@
 -- The columns of a place of an order beside its authorization: what is shown of them, and what is read of that.
-use Rattle.std.proofs.Common.{◌≡◌, ◌++◌, List, [], ◌∷◌, ap, arith, false}
-use Rattle.sqlite_value.specs.Order.{Row}
-use Rattle.sqlite_value.specs.declared.keys.Collation.TheVariants.{Binary}
-use Rattle.sqlite_value.specs.declared.keys.Key.{Key}
-use Rattle.sqlite_sql.specs.declared.ops.BinaryOp.TheVariants.{Compare}
-use Rattle.sqlite_sql.specs.declared.ops.CompareOp.TheVariants.{Eq}
-use Rattle.sqlite_sql.specs.Query.{Join, end, inner}
-use Rattle.sqlite_sql.specs.Term.{Term, col, op2}
-use Rattle.store_columns.specs.Columns.{authorization_columns, listed_columns}
-use Rattle.store_columns.specs.Laws.{AreToldApart}
-use Rattle.store_columns.specs.Limits.{IsStoredAuthorization, IsStoredListed}
-use Rattle.store_columns.specs.TextColumns.{HasTextAuthorization}
-use Rattle.store_columns.specs.declared.columns.{AuthzColumns.AuthzColumns, OrderAuthzColumns.OrderAuthzColumns, Owned.Owned}
-use Rattle.store_columns.proofs.RowsApart.{authorizations-apart, listed-apart}
+use Rattle.std.proofs.{Common.◌≡◌, Common.◌++◌, Common.List, Common.[], Common.◌∷◌, Common.arith, Common.false}
+use Rattle.sqlite_value.specs.{Order.Row, declared.keys.Collation.TheVariants.Binary, declared.keys.Key.Key}
+use Rattle.sqlite_sql.specs.{declared.ops.BinaryOp.TheVariants.Compare, declared.ops.CompareOp.TheVariants.Eq, Query.Join, Query.end, Query.inner, Term.Term}
+use Rattle.sqlite_sql.specs.{Term.col, Term.op2}
+use Rattle.store_columns.specs.{Columns.authorization_columns, Columns.listed_columns, Laws.AreToldApart, Limits.IsStoredAuthorization, Limits.IsStoredListed}
+use Rattle.store_columns.specs.{TextColumns.HasTextAuthorization, declared.columns.AuthzColumns.AuthzColumns}
+use Rattle.store_columns.specs.{declared.columns.OrderAuthzColumns.OrderAuthzColumns, declared.columns.Owned.Owned}
 use Rattle.desk_model.specs.declared.rows.{AuthorizationRow.AuthorizationRow, Listed.Listed}
 use Rattle.sql_tables.specs.Images.{authorization_params, listed_params}
 use Rattle.sql_read.specs.Spelled.{FitsPlace, place_in}
-use Rattle.sql_read.proofs.TableColumns.{authorization_back, int_fits, order_status_at, text_fits}
+use Rattle.sql_read.proofs.TableColumns.{authorization_back, order_status_at}
 
 -- a place of an order, under its number, beside an authorization, and their columns
 abbrev pub Place : Type 0
@@ -34,11 +27,7 @@ IsStoredPlace x = IsStoredListed x.0 × IsStoredAuthorization x.1
 
 -- their columns tell them apart
 pub place-apart : AreToldApart place_columns IsStoredPlace
-place-apart row other kept kept2 same =
-    λ i. (
-      listed-apart row.0 other.0 kept.0 kept2.0 (ap (λ (c : PlaceColumns). c.0) same) i,
-      authorizations-apart row.1 other.1 kept.1 kept2.1 (ap (λ (c : PlaceColumns). c.1) same) i,
-    )
+place-apart row other kept kept2 same = grind arith
 
 -- ---- what is joined
 
@@ -79,17 +68,4 @@ HasTextPlace c = HasTextAuthorization c.1
 
 -- then the values are of the kinds of the columns
 pub place_fits : (c : PlaceColumns) → HasTextPlace c → FitsPlace (place_params c)
-place_fits c h = (
-  ((omega arith, tt), (omega arith, tt), (omega arith, tt)),
-  (
-    (omega arith, tt),
-    (omega arith, tt),
-    (omega arith, h.name),
-    (omega arith, tt),
-    (omega arith, tt),
-    (omega arith, tt),
-    (omega arith, int_fits c.1.ended),
-    (omega arith, text_fits c.1.end_kind h.end_kind),
-    (omega arith, h.status),
-  ),
-)
+place_fits c h = grind arith

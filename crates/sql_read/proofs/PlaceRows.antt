@@ -1,29 +1,20 @@
 -- What the join of places shows: what each order that waits lists, beside the authorization that stands there.
-use Rattle.std.proofs.Common.{◌≡◌, ◌&&◌, if◌then◌else◌, ℕ, pos, Bool, true, false, cond, List, [], ◌∷◌, map, filter, flat_map}
-use Rattle.std.proofs.Common.{refl, sym, ap, ◌∙◌}
-use Rattle.std.specs.Prelude.{◌==◌}
-use Rattle.std.specs.List.{list_all}
-use Rattle.std.proofs.lemmas.{List.Concat.flat_map_single, Simd.map-map}
+use Rattle.std.proofs.Common.{◌≡◌, ◌&&◌, if◌then◌else◌, ℕ, pos, Bool, cond, List, [], ◌∷◌, map, filter, flat_map, sym, ap, ◌∙◌, rules}
+use Rattle.std.proofs.{lemmas.List.Concat.flat_map_single, lemmas.Simd.map-map}
+use Rattle.std.specs.{Prelude.◌==◌, List.list_all}
 use Rattle.sqlite.specs.declared.types.Value.TheVariants.{Int}
 use Rattle.sqlite_value.specs.Order.{Row}
 use Rattle.sqlite_trees.specs.Tree.{Trees}
 use Rattle.sqlite_trees.proofs.ListLemmas.{flat_map-map, flat_map_same_on, map-flat_map}
-use Rattle.sqlite_sql.specs.Query.{Output, Query, end, inner, matches, output}
-use Rattle.sqlite_sql.specs.Term.{Env, holds}
-use Rattle.store_columns.specs.Flat.{listed_rows, owned_by, without_challenges}
-use Rattle.store_columns.specs.declared.columns.Owned.{Owned}
+use Rattle.sqlite_sql.specs.{Query.Output, Query.Query, Query.end, Query.inner, Query.matches, Query.output, Term.Env, Term.holds}
+use Rattle.store_columns.specs.{Flat.listed_rows, Flat.owned_by, Flat.without_challenges, declared.columns.Owned.Owned}
 use Rattle.desk_model.specs.{Document.order_status_text, Kept.EachOf, Order.is_processing}
 use Rattle.desk_model.specs.declared.rows.{AuthorizationRow.AuthorizationRow, Listed.Listed, OrderRow.OrderRow}
 use Rattle.desk_model.specs.declared.status.OrderStatus.TheVariants as order
-use Rattle.sql_tables.specs.Hidden.{hidden, row_of}
-use Rattle.sql_tables.specs.Images.{authorization_image, listed_cells, order_image}
-use Rattle.sql_read.proofs.Answered.{all_rows, picked_from}
-use Rattle.sql_read.proofs.Beside.{beside, pairs}
-use Rattle.sql_read.proofs.Lists.{chosen, each_same, in_turn, kept, last_first}
-use Rattle.sql_read.proofs.LookUpReadings.{text}
+use Rattle.sql_tables.specs.{Hidden.hidden, Hidden.row_of, Images.authorization_image, Images.listed_cells, Images.order_image}
 use Rattle.sql_read.proofs.PlaceParts.{Place, place_columns, place_from, place_order, place_params, place_project, place_tests}
-use Rattle.sql_read.proofs.StatusTests.{order_waits}
-use Rattle.sql_read.proofs.Tests.{is_number, number_text_test}
+use Rattle.sql_read.proofs.{Answered.all_rows, Answered.picked_from, Beside.beside, Beside.pairs, Lists.chosen, Lists.each_same, Lists.in_turn, Lists.kept}
+use Rattle.sql_read.proofs.{LookUpReadings.text, Tests.number_text_test}
 
 -- ---- rows side by side
 
@@ -58,24 +49,13 @@ shown x = (Int (pos x.0.owner) ∷ Int (pos x.0.row.place) ∷ [], place_params 
 -- SQL's tests of the three are the model's
 passes_as : (o : OrderRow) (t : ℕ × Owned Listed) (a : AuthorizationRow)
     → list_all (holds (filled o t a)) place_tests ≡ ((t.1.owner == o.number) && ((a.number == authorization_at t.1) && waits o))
-passes_as o t a =
-    (λ i. is_number t.1.owner o.number i
-    && number_text_test a.number t.1.row.authorization (order_status_text o.status) (order_status_text order.Processing) i)
-    ∙ (λ i. (t.1.owner == o.number) && ((a.number == authorization_at t.1) && order_waits o.status i))
+passes_as o t a = search (rules, number_text_test)
 
 -- what is shown where they pass
 shows : (o : OrderRow) (t : ℕ × Owned Listed) (a : AuthorizationRow)
     → map (output place_query) (if list_all (holds (filled o t a)) place_tests then filled o t a ∷ [] else [])
     ≡ cond (waits o) (cond (a.number == authorization_at t.1) (cond (t.1.owner == o.number) (shown (t.1, a) ∷ []) []) []) []
-shows o t a =
-    ap (λ b. map (output place_query) (cond b (filled o t a ∷ []) [])) (passes_as o t a)
-    ∙ by ((t.1.owner == o.number) && ((a.number == authorization_at t.1) && waits o))
-    ∙ last_first (t.1.owner == o.number) ((a.number == authorization_at t.1) && waits o) (shown (t.1, a) ∷ [])
-    ∙ last_first (a.number == authorization_at t.1) (waits o) (cond (t.1.owner == o.number) (shown (t.1, a) ∷ []) [])
-  where
-    by : (b : Bool) → map (output place_query) (cond b (filled o t a ∷ []) []) ≡ cond b (shown (t.1, a) ∷ []) []
-    by true = refl
-    by false = refl
+shows o t a = search (rules, passes_as)
 
 -- ---- what the join shows
 

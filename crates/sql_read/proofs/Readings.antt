@@ -12,13 +12,11 @@ use Rattle.sql_schema.specs.declared.meta.TheConstants as meta
 use Rattle.sql_schema.specs.declared.nonces.TheConstants as nonce
 use Rattle.sql_schema.specs.declared.orders.TheConstants as ord
 use Rattle.sql_schema.specs.declared.listed.TheConstants as ord_authz
-use Rattle.sql_read.specs.declared.formats.Format.{Format}
-use Rattle.sql_read.specs.declared.formats.Format.TheVariants.{First, Second}
-use Rattle.sql_read.proofs.Answered.{IsReading, all_rows, by}
-use Rattle.sql_read.proofs.KeptRows.{schema_of}
-use Rattle.sql_read.proofs.TableColumns.{account_names, authorization_names, challenge_names, key_names, listed_names, listed_project, meta_names}
-use Rattle.sql_read.proofs.TableColumns.{nonce_names, order_names}
+use Rattle.sql_read.specs.{declared.formats.Format.Format, declared.formats.Format.TheVariants.First, declared.formats.Format.TheVariants.Second}
+use Rattle.sql_read.proofs.TableColumns.{account_names, authorization_names, challenge_names, key_names, listed_names, listed_project, meta_names, nonce_names}
+use Rattle.sql_read.proofs.TableColumns.{order_names}
 use Rattle.sql_read.proofs.TableFacts.{IsReadingOf, account_facts, authorization_facts, challenge_facts, key_facts, meta_facts, nonce_facts, order_facts}
+use Rattle.sql_read.proofs.{Answered.IsReading, Answered.all_rows, Answered.by, KeptRows.schema_of}
 
 -- `meta`, by its key
 pub meta_reading : (format : Format) → IsReadingOf meta_facts (schema_of format) all_rows meta.SELECT.now [] []

@@ -1,7 +1,6 @@
 -- Rows that a reading showed.
 use Rattle.std.proofs.Common.{◌≡◌, List, ℕ, [], map, refl, ◌∙◌}
-use Rattle.sqlite.specs.Held.{Held, state}
-use Rattle.sqlite.specs.{Order.Row, State.Shown, Store.Ghosts}
+use Rattle.sqlite.specs.{Held.Held, Held.state, Order.Row, State.Shown, Store.Ghosts}
 use Rattle.store_columns.specs.declared.columns.StoredRows.{StoredRows}
 use Rattle.sql_read.specs.Shown.{AreShown, IsShown}
 use Rattle.sql_read.specs.Spelled.{account_in, authorization_in, challenge_in, key_in, listed_in, meta_in, nonce_in, order_in}

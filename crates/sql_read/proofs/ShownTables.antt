@@ -6,9 +6,8 @@ use Rattle.store_columns.specs.Columns.{account_columns, authorization_columns, 
 use Rattle.store_columns.specs.Limits.{IsStoredAccount, IsStoredAuthorization, IsStoredChallenge, IsStoredOrder}
 use Rattle.desk_model.specs.declared.rows.Counters.{Counters}
 use Rattle.sql_read.specs.BookShown.{ShowsAccounts, ShowsAuthorizations, ShowsChallenges, ShowsKeysIn, ShowsListed, ShowsOrders}
-use Rattle.sql_read.specs.Checking.{ShowsTable}
-use Rattle.sql_read.specs.declared.formats.Format.{Format}
 use Rattle.sql_read.specs.Spelled.{account_in, authorization_in, challenge_in, order_in}
+use Rattle.sql_read.specs.{Checking.ShowsTable, declared.formats.Format.Format}
 use Rattle.sql_schema.specs.declared.accounts.TheConstants as account
 use Rattle.sql_schema.specs.declared.authorizations.TheConstants as authz
 use Rattle.sql_schema.specs.declared.challenges.TheConstants as chall

@@ -1,6 +1,6 @@
 -- Rows side by side: those that pass the tests of a statement, with what stands beside them.
-use Rattle.std.proofs.Common.{◌≡◌, ◌++◌, ◌&&◌, Bool, true, false, cond, List, [], ◌∷◌, map, filter, flat_map, refl, sym, ap, ◌∙◌}
-use Rattle.std.proofs.Math.Bool.{and-true}
+use Rattle.std.proofs.Common.{◌≡◌, ◌++◌, ◌&&◌, Bool, true, false, cond, List, [], ◌∷◌, map, filter, flat_map, refl, sym, ap, ◌∙◌, arith, rules}
+use Rattle.std.proofs.{Math.Bool.and-true}
 use Rattle.sqlite_value.specs.Order.{Row}
 use Rattle.sqlite_sql.specs.Term.{Env}
 use Rattle.model_lives.proofs.Lists.{filter_nothing}
@@ -10,8 +10,7 @@ use Rattle.desk_model.specs.Kept.{EachOf}
 
 -- a test with one that never holds
 pub never : (b : Bool) → (b && false) ≡ false
-never true = refl
-never false = refl
+never b = search rules
 
 -- tests that do not look at the rows stand before them
 pub tests_first : {X Y : Type 0} (f : X → Y) (test : X → Bool) (p q : Bool) (xs : List X)
@@ -33,21 +32,11 @@ pub each_joined : {X : Type 0} (image : X → Row) (filled : X → Env) (P : X �
     → ((x : X) → P x → joined (image x) ≡ cond (test x) (filled x ∷ []) []) → (xs : List X) → EachOf P xs
     → flat_map joined (map image xs) ≡ map filled (filter test xs)
 each_joined image filled P test joined is [] h = refl
-each_joined {X} image filled P test joined is (x ∷ xs) h =
-    (λ i. is x h.0 i ++ each_joined image filled P test joined is xs h.1 i) ∙ by (test x) (filter test xs)
-  where
-    by : (b : Bool) (rest : List X) → cond b (filled x ∷ []) [] ++ map filled rest ≡ map filled (cond b (x ∷ rest) rest)
-    by true rest = refl
-    by false rest = refl
+each_joined {X} image filled P test joined is (x ∷ xs) h = (λ i. is x h.0 i ++ each_joined image filled P test joined is xs h.1 i) ∙ grind arith
 
 -- of rows those that pass, each with all that stands beside it
 pub each_spread : {X : Type 0} (image : X → Row) (part : X → List Env) (P : X → Type 0) (test : X → Bool) (joined : Row → List Env)
     → ((x : X) → P x → joined (image x) ≡ cond (test x) (part x) []) → (xs : List X) → EachOf P xs
     → flat_map joined (map image xs) ≡ flat_map part (filter test xs)
 each_spread image part P test joined is [] h = refl
-each_spread {X} image part P test joined is (x ∷ xs) h =
-    (λ i. is x h.0 i ++ each_spread image part P test joined is xs h.1 i) ∙ by (test x) (filter test xs)
-  where
-    by : (b : Bool) (rest : List X) → cond b (part x) [] ++ flat_map part rest ≡ flat_map part (cond b (x ∷ rest) rest)
-    by true rest = refl
-    by false rest = refl
+each_spread {X} image part P test joined is (x ∷ xs) h = (λ i. is x h.0 i ++ each_spread image part P test joined is xs h.1 i) ∙ grind arith

@@ -1,13 +1,11 @@
 -- Rows that are read and checked one after the other.
 use Rattle.std.proofs.Common.{◌≡◌, ℕ, inl, inr, List, [], ◌∷◌, ◌++◌, map, None, Option, Result, Ok, Err, append-nil, append_assoc, refl, sym, ap, subst, ◌∙◌}
+use Rattle.std.proofs.Common.{arith, rules}
 use Rattle.std.specs.Prelude.{Bool, IfSome, IsSome, OnErr, Some}
-use Rattle.sqlite.specs.{Effect.Database, Listing.understood, Order.Row, Store.Ghosts, Schema.Schema}
 use Rattle.sqlite.specs.Given.{HasBegun, HasGiven, IsRefused, Returns}
-use Rattle.sqlite.specs.Held.{Held, state}
 use Rattle.sqlite.specs.State.{CommitsShowing, FailsToQuery, HasCleanDisk, IsUnchanged, Shown, Survives}
-use Rattle.sqlite.specs.declared.error.Error.{Error}
+use Rattle.sqlite.specs.{Effect.Database, Listing.understood, Order.Row, Store.Ghosts, Schema.Schema, Held.Held, Held.state, declared.error.Error.Error}
 use Rattle.sqlite.proofs.{Callers.unchanged_then, StateLemmas.survives_weaker}
-use Rattle.sqlite_resolve.specs.declared.{compiled.Compiled.Compiled, error.CompileError.CompileError}
 use Rattle.model_laws.proofs.Basics.{each-append}
 use Rattle.desk_model.specs.Kept.{EachOf}
 use Rattle.store_columns.specs.Laws.{AreToldApart}
@@ -16,16 +14,11 @@ use Rattle.sql_schema.specs.Stays.{Asks}
 use Rattle.sql_schema.proofs.StaysLemmas.{stays_unchanged}
 use Rattle.sql_read.specs.Checking.{AreFirst, GoesOn, HasGivenRows, ShowsOnly, ShowsTable, Stops}
 use Rattle.sql_read.specs.{Failures.IsMet, Selecting.IsQuery}
-use Rattle.sql_read.proofs.{Asking.stays_failed, MetFaults.query_met}
-use Rattle.sql_read.proofs.Selecting.{commits_none, none_understood}
+use Rattle.sql_read.proofs.{Asking.stays_failed, MetFaults.query_met, Selecting.commits_none, Selecting.none_understood}
 
 -- a query shows nothing of a write
 never_returns : (s : Schema) (text : List ℕ) → IsQuery text → Returns (understood s text) → ⊥
-never_returns s text is h = go (understood s text) (λ c. none_understood s text c is) h
-  where
-    go : (r : Result Compiled CompileError) → ((c : Compiled) → r ≡ Ok c → c.returning ≡ None) → Returns r → ⊥
-    go (Ok c) none some = absurd (let e = rw (none c refl) at some in cc)
-    go (Err e) none some = some
+never_returns s text is h = search (rules, none_understood)
 
 -- goes on by no rows
 pub goes_nowhere : {K R : Type 0} (Passed : K → K → List R → Type 0) (check : K) → GoesOn Passed check check []
@@ -34,8 +27,7 @@ goes_nowhere Passed check first rows passed = subst (Passed first check) (sym (a
 -- by some rows and one more
 pub goes_further : {K R : Type 0} (Passed : K → K → List R → Type 0) (before mid after : K) (more : List R) (row : R) → GoesOn Passed before mid more
     → GoesOn Passed mid after (row ∷ []) → GoesOn Passed before after (more ++ row ∷ [])
-goes_further Passed before mid after more row on further first rows passed =
-    subst (Passed first after) (append_assoc rows more (row ∷ [])) (further first (rows ++ more) (on first rows passed))
+goes_further Passed before mid after more row on further first rows passed = search (rules, append_assoc)
 
 map_more : {X Y : Type 0} (f : X → Y) (xs : List X) (x : X) → map f (xs ++ x ∷ []) ≡ map f xs ++ f x ∷ []
 map_more f [] x = refl
@@ -128,9 +120,7 @@ pub whole_kept : {S C R K X : Type 0} (g : Ghosts S) (text : List ℕ) (spelled 
     → ShowsTable g text spelled write IsStored db (GoesOn Passed check after) → (kept : Option X)
     → IfSome kept (λ k. (first : K) (rows : List R) → Passed first after rows → IsWhole first rows k)
     → IfSome kept (λ k. ShowsTable g text spelled write IsStored db (λ rows. IsWhole check rows k))
-whole_kept g text spelled write IsStored Passed IsWhole db check after new shows None whole = tt
-whole_kept g text spelled write IsStored Passed IsWhole db check after new shows (Some kept) whole =
-    record { rows = shows.rows; shown = shows.shown; stored = shows.stored; is = whole check shows.rows (shows.is check [] new) }
+whole_kept g text spelled write IsStored Passed IsWhole db check after h l kept e = search rules
 
 -- ---- rows that do not pass
 
@@ -148,8 +138,7 @@ pub next_row : {C R : Type 0} (spelled : Row → C) (write : R → C) (Fits : Ro
     → (given : List Row) (row : Row) (rows all : List R) → map spelled given ≡ map write rows → EachOf IsStored rows → EachOf IsStored all
     → AreFirst spelled write Fits (given ++ row ∷ []) all → IsNext spelled write Fits IsStored row rows all
 next_row spelled write Fits IsStored apart [] row [] [] same kept stored first = absurd first
-next_row spelled write Fits IsStored apart [] row [] (x ∷ all) same kept stored first =
-    record { next = x; rest = all; are = refl; spells = first.0; fits = first.1; stored = stored.0 }
+next_row spelled write Fits IsStored apart [] row [] (x ∷ all) same kept stored first = grind arith
 next_row spelled write Fits IsStored apart [] row (y ∷ rows) all same kept stored first = absurd (cc same)
 next_row spelled write Fits IsStored apart (r ∷ given) row [] all same kept stored first = absurd (cc same)
 next_row spelled write Fits IsStored apart (r ∷ given) row (y ∷ rows) [] same kept stored first = absurd first

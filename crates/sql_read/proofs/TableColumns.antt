@@ -1,27 +1,24 @@
 -- The columns of each table: their names, that what is read of a row is what stands in it, and that it fits the table.
-use Rattle.std.proofs.Common.{ℕ, List, [], ◌∷◌, codes, ◌≡◌, ℤ, pos, None, Some, Option, refl, map, All, IsUtf8, IfSome, arith, subst, sym}
+use Rattle.std.proofs.Common.{ℕ, List, [], ◌∷◌, codes, ◌≡◌, ℤ, pos, Option, refl, map, All, arith, subst, sym, rules}
+use Rattle.std.proofs.{lemmas.List.Elements.All-from_recursion}
 use Rattle.sqlite.specs.declared.types.Value.TheVariants.{Int, Text}
 use Rattle.sqlite_value.specs.Order.{Row, column}
 use Rattle.sqlite_trees.specs.Tree.{Trees}
-use Rattle.sqlite_sql.specs.Term.{Term, col, eval_all}
-use Rattle.sqlite_sql.specs.Program.{overlay}
+use Rattle.sqlite_sql.specs.{Term.Term, Term.col, Term.eval_all, Program.overlay}
 use Rattle.store_columns.specs.Columns.{account_columns, authorization_columns, challenge_columns, key_columns, meta_columns, nonce_columns, order_columns}
 use Rattle.store_columns.specs.Columns.{summary_columns}
 use Rattle.store_columns.specs.declared.columns.{AccountColumns.AccountColumns, AuthzColumns.AuthzColumns, ChallColumns.ChallColumns}
 use Rattle.store_columns.specs.declared.columns.{ChallKeyColumns.ChallKeyColumns, MetaColumns.MetaColumns, NonceColumns.NonceColumns}
 use Rattle.store_columns.specs.declared.columns.{OrderAuthzColumns.OrderAuthzColumns, OrderColumns.OrderColumns, OrderSummaryColumns.OrderSummaryColumns}
 use Rattle.store_columns.specs.Flat.{bare_row}
-use Rattle.sql_tables.specs.Images.{account_params, authorization_params, blob_or_null, challenge_params, formatted_columns, int_or_null, key_params}
+use Rattle.store_columns.specs.TextColumns.{HasTextAccount, HasTextAuthorization, HasTextChallenge, HasTextMeta, HasTextOrder, HasTextSummary}
+use Rattle.sql_tables.specs.Images.{account_params, authorization_params, challenge_params, formatted_columns, int_or_null, key_params}
 use Rattle.sql_tables.specs.Images.{listed_params, meta_params, nonce_params, order_params, text_or_null}
 use Rattle.sql_tables.specs.Layouts.{Layout, account_layout, authorization_layout, challenge_layout, formatted_layout, key_layout, meta_layout}
 use Rattle.sql_tables.specs.Layouts.{nonce_layout, order_layout}
-use Rattle.sql_read.specs.Spelled.{account_in, authorization_in, bytes_or_none, challenge_in, key_in, listed_in, meta_in, nonce_in, number_or_none}
-use Rattle.sql_read.specs.Spelled.{order_in, summary_in, FitsAccount, FitsAuthorization, FitsChallenge, FitsKey, FitsListed, FitsMeta, FitsNonce, FitsOrder}
-use Rattle.sql_read.specs.Spelled.{FitsSummary}
-use Rattle.sql_read.specs.Spelled.{HoldsBlobOrNull, HoldsIntOrNull, HoldsTextOrNull}
+use Rattle.sql_read.specs.Spelled.{account_in, authorization_in, bytes_or_none, challenge_in, key_in, listed_in, meta_in, nonce_in, number_or_none, order_in}
+use Rattle.sql_read.specs.Spelled.{summary_in, FitsAccount, FitsAuthorization, FitsChallenge, FitsKey, FitsListed, FitsMeta, FitsNonce, FitsOrder, FitsSummary}
 use Rattle.std.specs.List.{AllByRecursion}
-use Rattle.std.proofs.lemmas.List.Elements.{All-from_recursion}
-use Rattle.store_columns.specs.TextColumns.{HasTextAccount, HasTextAuthorization, HasTextChallenge, HasTextMeta, HasTextOrder, HasTextSummary}
 use Rattle.desk_model.specs.Kept.{EachOf}
 
 -- ---- the names of the columns, as the engine reads them in a statement
@@ -74,18 +71,11 @@ key_names = codes "chall" ∷ codes "thumb" ∷ []
 
 -- a number or NULL
 number_back : (o : Option ℤ) → number_or_none (int_or_null o) ≡ o
-number_back None = refl
-number_back (Some n) = refl
+number_back o = search rules
 
 -- a text or NULL
 text_back : (o : Option (List ℕ)) → bytes_or_none (text_or_null o) ≡ o
-text_back None = refl
-text_back (Some t) = refl
-
--- a blob or NULL
-blob_back : (o : Option (List ℕ)) → bytes_or_none (blob_or_null o) ≡ o
-blob_back None = refl
-blob_back (Some b) = refl
+text_back o = search rules
 
 -- ---- rows, read back
 
@@ -103,15 +93,7 @@ account_back c = λ i. record c { ended = number_back c.ended i; end_kind = text
 
 -- `ord`
 pub order_back : (c : OrderColumns) → order_in (order_params c) ≡ c
-order_back c =
-    λ i. record c {
-      finalized = number_back c.finalized i;
-      csr = blob_back c.csr i;
-      certified = number_back c.certified i;
-      cert = blob_back c.cert i;
-      failed = number_back c.failed i;
-      problem = text_back c.problem i;
-    }
+order_back c = grind arith
 
 -- `authz`
 pub authorization_back : (c : AuthzColumns) → authorization_in (authorization_params c) ≡ c
@@ -123,8 +105,7 @@ listed_back c = refl
 
 -- `chall`
 pub challenge_back : (c : ChallColumns) → challenge_in (challenge_params c) ≡ c
-challenge_back c =
-    λ i. record c { answered = number_back c.answered i; reported = number_back c.reported i; outcome = text_back c.outcome i }
+challenge_back c = grind arith
 
 -- `chall_key`
 pub key_back : (c : ChallKeyColumns) → key_in (key_params c) ≡ c
@@ -229,41 +210,11 @@ authorization_status_at = 9
 abbrev pub challenge_status_at : ℕ
 challenge_status_at = 8
 
--- ---- values that fit
-
--- a number or NULL
-pub int_fits : (o : Option ℤ) → HoldsIntOrNull (int_or_null o)
-int_fits None = tt
-int_fits (Some n) = tt
-
--- a text or NULL
-pub text_fits : (o : Option (List ℕ)) → IfSome o IsUtf8 → HoldsTextOrNull (text_or_null o)
-text_fits None h = tt
-text_fits (Some t) h = h
-
--- a blob or NULL
-blob_fits : (o : Option (List ℕ)) → HoldsBlobOrNull (blob_or_null o)
-blob_fits None = tt
-blob_fits (Some b) = tt
-
 -- ---- rows that fit
 
 -- `meta`
 pub meta_fits : (c : MetaColumns) → HasTextMeta c → FitsMeta (meta_params c)
-meta_fits c h = (
-  (omega arith, tt),
-  (omega arith, tt),
-  (omega arith, h),
-  (omega arith, tt),
-  (omega arith, tt),
-  (omega arith, tt),
-  (omega arith, tt),
-  (omega arith, tt),
-  (omega arith, tt),
-  (omega arith, tt),
-  (omega arith, tt),
-  (omega arith, tt),
-)
+meta_fits c h = search rules
 
 -- `nonce`
 pub nonce_fits : (c : NonceColumns) → Unit {0} → FitsNonce (nonce_params c)
@@ -271,31 +222,11 @@ nonce_fits c h = ((omega arith, tt), (omega arith, tt), (omega arith, tt))
 
 -- `account`
 pub account_fits : (c : AccountColumns) → HasTextAccount c → FitsAccount (account_params c)
-account_fits c h = (
-  (omega arith, tt),
-  (omega arith, h.jwk),
-  (omega arith, h.contacts),
-  (omega arith, tt),
-  (omega arith, int_fits c.ended),
-  (omega arith, text_fits c.end_kind h.end_kind),
-  (omega arith, h.status),
-)
+account_fits c h = grind arith
 
 -- `ord`
 pub order_fits : (c : OrderColumns) → HasTextOrder c → FitsOrder (order_params c)
-order_fits c h = (
-  (omega arith, tt),
-  (omega arith, tt),
-  (omega arith, tt),
-  (omega arith, tt),
-  (omega arith, int_fits c.finalized),
-  (omega arith, blob_fits c.csr),
-  (omega arith, int_fits c.certified),
-  (omega arith, blob_fits c.cert),
-  (omega arith, int_fits c.failed),
-  (omega arith, text_fits c.problem h.problem),
-  (omega arith, h.status),
-)
+order_fits c h = grind arith
 
 -- an order in summary
 pub summary_fits : (c : OrderSummaryColumns) → HasTextSummary c → FitsSummary (summary_params c)
@@ -303,17 +234,7 @@ summary_fits c h = ((omega arith, tt), (omega arith, tt), (omega arith, tt), (om
 
 -- `authz`
 pub authorization_fits : (c : AuthzColumns) → HasTextAuthorization c → FitsAuthorization (authorization_params c)
-authorization_fits c h = (
-  (omega arith, tt),
-  (omega arith, tt),
-  (omega arith, h.name),
-  (omega arith, tt),
-  (omega arith, tt),
-  (omega arith, tt),
-  (omega arith, int_fits c.ended),
-  (omega arith, text_fits c.end_kind h.end_kind),
-  (omega arith, h.status),
-)
+authorization_fits c h = grind arith
 
 -- `ord_authz`
 pub listed_fits : (c : OrderAuthzColumns) → Unit {0} → FitsListed (listed_params c)
@@ -321,16 +242,7 @@ listed_fits c h = ((omega arith, tt), (omega arith, tt), (omega arith, tt))
 
 -- `chall`
 pub challenge_fits : (c : ChallColumns) → HasTextChallenge c → FitsChallenge (challenge_params c)
-challenge_fits c h = (
-  (omega arith, tt),
-  (omega arith, tt),
-  (omega arith, h.kind),
-  (omega arith, tt),
-  (omega arith, int_fits c.answered),
-  (omega arith, int_fits c.reported),
-  (omega arith, text_fits c.outcome h.outcome),
-  (omega arith, h.status),
-)
+challenge_fits c h = grind arith
 
 -- `chall_key`
 pub key_fits : (c : ChallKeyColumns) → Unit {0} → FitsKey (key_params c)

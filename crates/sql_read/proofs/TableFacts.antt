@@ -1,20 +1,17 @@
 -- What is known of each table by number: how its rows stand in it, what a statement shows of them, and which rows are a table's.
-use Rattle.std.proofs.Common.{ℕ, ℤ, Bool, List, [], ◌∷◌}
+use Rattle.std.proofs.{Common.ℕ, Common.ℤ, Common.Bool, Common.List, Common.[], Common.◌∷◌, Common.arith}
 use Rattle.sqlite_value.specs.Order.{Row}
 use Rattle.sqlite_sql.specs.Term.{Term}
 use Rattle.sqlite.specs.Schema.{Schema}
-use Rattle.store_columns.specs.Columns.{account_columns, authorization_columns, challenge_columns, key_columns, known_format, meta_columns}
-use Rattle.store_columns.specs.Columns.{nonce_columns, order_columns, summary_columns}
-use Rattle.store_columns.specs.Flat.{bare_row, summarized, without_challenges, without_listed}
-use Rattle.store_columns.specs.Laws.{AreToldApart}
+use Rattle.store_columns.specs.Columns.{account_columns, authorization_columns, challenge_columns, key_columns, meta_columns, nonce_columns, order_columns}
+use Rattle.store_columns.specs.Columns.{summary_columns}
 use Rattle.store_columns.specs.Limits.{IsStoredAccount, IsStoredAuthorization, IsStoredChallenge, IsStoredKey, IsStoredMeta, IsStoredNonce, IsStoredOrder}
 use Rattle.store_columns.specs.Limits.{IsStoredSummary}
 use Rattle.store_columns.specs.TextColumns.{HasTextAccount, HasTextAuthorization, HasTextChallenge, HasTextMeta, HasTextOrder, HasTextSummary}
-use Rattle.store_columns.specs.declared.{columns.AccountColumns.AccountColumns, columns.AuthzColumns.AuthzColumns, columns.ChallColumns.ChallColumns}
-use Rattle.store_columns.specs.declared.{columns.ChallKeyColumns.ChallKeyColumns, columns.MetaColumns.MetaColumns, columns.NonceColumns.NonceColumns}
-use Rattle.store_columns.specs.declared.{columns.OrderColumns.OrderColumns, columns.AnswerKey.AnswerKey, columns.BareChallenge.BareChallenge}
-use Rattle.store_columns.specs.declared.{columns.OrderSummaryColumns.OrderSummaryColumns}
-use Rattle.store_columns.specs.declared.{columns.Owned.Owned}
+use Rattle.store_columns.specs.{Flat.bare_row, Flat.summarized, Flat.without_challenges, Flat.without_listed, Laws.AreToldApart}
+use Rattle.store_columns.specs.declared.columns.{AccountColumns.AccountColumns, AuthzColumns.AuthzColumns, ChallColumns.ChallColumns}
+use Rattle.store_columns.specs.declared.columns.{ChallKeyColumns.ChallKeyColumns, MetaColumns.MetaColumns, NonceColumns.NonceColumns, OrderColumns.OrderColumns}
+use Rattle.store_columns.specs.declared.columns.{AnswerKey.AnswerKey, BareChallenge.BareChallenge, OrderSummaryColumns.OrderSummaryColumns, Owned.Owned}
 use Rattle.store_columns.proofs.RowsApart.{accounts-apart, authorizations-apart, challenges-apart, keys-apart, metas-apart, nonces-apart, orders-apart}
 use Rattle.store_columns.proofs.RowsApart.{summaries-apart}
 use Rattle.desk_model.specs.declared.{objects.Nonce.Nonce, rows.AccountRow.AccountRow, rows.AuthorizationRow.AuthorizationRow, rows.ChallengeRow.ChallengeRow}
@@ -27,9 +24,8 @@ use Rattle.sql_read.specs.Spelled.{authorization_in, challenge_in, key_in, meta_
 use Rattle.sql_read.proofs.Answered.{IsReading, by, passes}
 use Rattle.sql_read.proofs.TableColumns.{IsSpelled, account_fits, account_project, account_spelled, authorization_fits, authorization_project}
 use Rattle.sql_read.proofs.TableColumns.{authorization_spelled, challenge_fits, challenge_project, challenge_spelled, formatted_spelled, key_fits, key_project}
-use Rattle.sql_read.proofs.TableColumns.{key_spelled}
-use Rattle.sql_read.proofs.TableColumns.{meta_fits, meta_project, meta_spelled, nonce_fits, nonce_project, nonce_spelled, order_fits, order_project}
-use Rattle.sql_read.proofs.TableColumns.{order_spelled, summary_fits, summary_project, summary_spelled}
+use Rattle.sql_read.proofs.TableColumns.{key_spelled, meta_fits, meta_project, meta_spelled, nonce_fits, nonce_project, nonce_spelled, order_fits}
+use Rattle.sql_read.proofs.TableColumns.{order_project, order_spelled, summary_fits, summary_project, summary_spelled}
 
 -- rows as they are kept, the part of each that stands in this table, and the columns that are written and read of that
 pub record TableFacts (X R C : Type 0) : Type 1 where
@@ -69,10 +65,7 @@ meta_facts = table_of meta_layout (λ x. x) meta_columns meta_in meta_project me
 
 -- rows of `meta` in any format are told apart by their columns, too
 pub formatted-apart : AreToldApart formatted_columns (λ m. IsStoredMeta m.1)
-formatted-apart row other kept others same = λ i. (
-  (same i).format,
-  metas-apart row.1 other.1 kept others (λ j. record (same j) { format = known_format }) i,
-)
+formatted-apart row other kept others same = grind arith
 
 -- `meta` in any format
 abbrev pub formatted_facts : TableFacts (ℤ × Meta) (ℤ × Meta) MetaColumns

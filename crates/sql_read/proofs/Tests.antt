@@ -1,39 +1,25 @@
 -- SQL's tests of a column are the model's.
-use Rattle.std.proofs.Common.{◌≡◌, ℕ, ℤ, pos, ◌<◌, ◌≤◌, ◌&&◌, List, Bool, true, false, refl, sym, ap, ◌∙◌, arith, int_cmp, inl, inr, nat_cmp}
-use Rattle.std.specs.Prelude.{◌==◌, nat_lt, nat_le, bytes_eq, if◌then◌else◌}
-use Rattle.std.specs.Ordering.{is_eq, is_gt, is_lt}
-use Rattle.std.specs.Cmp.Lexicographic.{slice_cmp}
-use Rattle.std.proofs.{lemmas.Bool.Decides.nat_tests, lemmas.Map.Text.is_eq-slice_cmp, Math.Bool.and-true}
-use Rattle.std.proofs.lemmas.Bool.{eq-eqb, le-ltb, lt-ltb}
+use Rattle.std.proofs.Common.{◌≡◌, ℕ, ℤ, pos, ◌≤◌, ◌&&◌, List, true, ◌∙◌, arith, int_cmp, nat_cmp}
+use Rattle.std.proofs.{lemmas.Map.Text.is_eq-slice_cmp, Math.Bool.and-true}
+use Rattle.std.specs.{Prelude.◌==◌, Prelude.nat_lt, Prelude.bytes_eq, Ordering.is_eq, Ordering.is_gt, Ordering.is_lt, Cmp.Lexicographic.slice_cmp}
 use Rattle.sqlite.specs.declared.types.Value.TheVariants.{Int, Text}
 use Rattle.sqlite_value.specs.declared.keys.Collation.TheVariants.{Binary}
 use Rattle.sqlite_value.proofs.OrderLemmas.{value_cmp-Int, value_cmp-Text}
-use Rattle.sqlite_sql.specs.declared.ops.BinaryOp.TheVariants.{Compare}
 use Rattle.sqlite_sql.specs.declared.ops.CompareOp.TheVariants.{Eq, Gt, Lt}
-use Rattle.sqlite_sql.specs.Ops.{binary, is_true}
-use Rattle.sql_tables.proofs.Found.{equal_is, told}
-use Rattle.sql_tables.proofs.Keyed.{ranked, three}
+use Rattle.sqlite_sql.specs.{declared.ops.BinaryOp.TheVariants.Compare, Ops.binary, Ops.is_true}
+use Rattle.sql_tables.proofs.{Found.equal_is, Found.told, Keyed.three}
 use Rattle.sql_read.specs.Bounded.{bounded}
 use Rattle.desk_model.specs.Limits.{last_number}
-use Rattle.model_laws.proofs.Basics.{less_differs, more_differs}
 
 -- ---- numbers
 
 -- SQL's `=`
 pub eq_as : (a b : ℕ) → is_eq (three a b) ≡ (a == b)
-eq_as a b = elim (ranked a b) [
-  | inl less ↦ rw (less.ranks, less_differs a b less.low) refl
-  | inr (inl tied) ↦ rw (tied.ranks, eq-eqb a b tied.same) refl
-  | inr (inr more) ↦ rw (more.ranks, more_differs a b more.high) refl
-]
+eq_as a b = grind arith
 
 -- SQL's `<`
 pub lt_as : (a b : ℕ) → is_lt (three a b) ≡ nat_lt a b
-lt_as a b = elim (ranked a b) [
-  | inl less ↦ rw (less.ranks, lt-ltb a b less.low) refl
-  | inr (inl tied) ↦ rw (tied.ranks, le-ltb a b (omega (arith, tied.same))) refl
-  | inr (inr more) ↦ rw (more.ranks, le-ltb a b (omega (arith, more.high))) refl
-]
+lt_as a b = grind arith
 
 -- SQL's `<` of two numbers
 less_is : (m n : ℤ) → is_true (binary (Compare Lt Binary) (Int m) (Int n)) ≡ is_lt (int_cmp m n)
@@ -63,11 +49,7 @@ below_test a n = and-true _ ∙ is_below a n
 
 -- SQL's `>`
 gt_as : (a b : ℕ) → is_gt (three a b) ≡ nat_lt b a
-gt_as a b = elim (ranked a b) [
-  | inl less ↦ rw (less.ranks, le-ltb b a (omega (arith, less.low))) refl
-  | inr (inl tied) ↦ rw (tied.ranks, le-ltb b a (omega (arith, tied.same))) refl
-  | inr (inr more) ↦ rw (more.ranks, lt-ltb b a more.high) refl
-]
+gt_as a b = grind arith
 
 -- SQL's `>` of two numbers
 more_is : (m n : ℤ) → is_true (binary (Compare Gt Binary) (Int m) (Int n)) ≡ is_gt (int_cmp m n)
@@ -102,39 +84,14 @@ number_text_test a n s t = λ i. is_number a n i && text_test s t i
 
 -- ---- numbers that SQL does not have
 
--- a number that is bounded is above the greatest of SQL
-beyond : (n : ℕ) → nat_le n 9223372036854775807 ≡ false → 9223372036854775807 < n
-beyond n h = grind (arith, nat_tests)
-
 -- no number of a row is the greatest of SQL, or above it
 pub same_bounded : (a n : ℕ) → a ≤ last_number → (a == bounded n) ≡ (a == n)
-same_bounded a n low = go (nat_le n 9223372036854775807) refl
-  where
-    go : (b : Bool) → nat_le n 9223372036854775807 ≡ b → (a == bounded n) ≡ (a == n)
-    go true is = ap (λ b. a == (if b then n else 9223372036854775807)) is
-    go false is =
-        let high : 9223372036854775807 < n = beyond n is in
-        ap (λ b. a == (if b then n else 9223372036854775807)) is ∙ less_differs a 9223372036854775807 (omega (arith, low)) ∙ sym
-        (less_differs a n (omega (arith, low, high)))
+same_bounded a n low = grind arith
 
 -- each moment of a row is below the greatest of SQL
 pub below_bounded : (a n : ℕ) → a ≤ last_number → nat_lt a (bounded n) ≡ nat_lt a n
-below_bounded a n low = go (nat_le n 9223372036854775807) refl
-  where
-    go : (b : Bool) → nat_le n 9223372036854775807 ≡ b → nat_lt a (bounded n) ≡ nat_lt a n
-    go true is = ap (λ b. nat_lt a (if b then n else 9223372036854775807)) is
-    go false is =
-        let high : 9223372036854775807 < n = beyond n is in
-        ap (λ b. nat_lt a (if b then n else 9223372036854775807)) is ∙ lt-ltb a 9223372036854775807 (omega (arith, low)) ∙ sym
-        (lt-ltb a n (omega (arith, low, high)))
+below_bounded a n low = grind arith
 
 -- no number of a row is above the greatest of SQL
 pub above_bounded : (a n : ℕ) → a ≤ last_number → nat_lt (bounded n) a ≡ nat_lt n a
-above_bounded a n low = go (nat_le n 9223372036854775807) refl
-  where
-    go : (b : Bool) → nat_le n 9223372036854775807 ≡ b → nat_lt (bounded n) a ≡ nat_lt n a
-    go true is = ap (λ b. nat_lt (if b then n else 9223372036854775807) a) is
-    go false is =
-        let high : 9223372036854775807 < n = beyond n is in
-        ap (λ b. nat_lt (if b then n else 9223372036854775807) a) is ∙ le-ltb 9223372036854775807 a (omega (arith, low)) ∙ sym
-        (le-ltb n a (omega (arith, low, high)))
+above_bounded a n low = grind arith

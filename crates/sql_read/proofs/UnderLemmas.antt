@@ -1,13 +1,9 @@
 -- Rows under their owners: each owner's rows are its own, and so are their numbers.
-use Rattle.std.proofs.Common.{◌≡◌, ℕ, ◌+◌, ◌<◌, Bool, true, false, cond, List, [], ◌∷◌, ◌++◌, map, filter, refl, sym, ap, subst, ◌∙◌, arith, append-nil}
-use Rattle.std.specs.Prelude.{◌==◌}
-use Rattle.std.specs.List.{flat_map}
-use Rattle.std.proofs.lemmas.Bool.{eq-eqb, eqb-true}
-use Rattle.std.proofs.lemmas.{List.map-append, Simd.map-map}
-use Rattle.store_columns.specs.Flat.{challenge_rows, listed_rows, owned_by}
-use Rattle.store_columns.specs.declared.columns.Owned.{Owned}
-use Rattle.model_laws.proofs.Basics.{each, each_both, less_differs, more_differs}
-use Rattle.model_laws.proofs.RowLists.{ascends_above, ascends_map}
+use Rattle.std.proofs.Common.{◌≡◌, ℕ, ◌+◌, ◌<◌, Bool, false, cond, List, [], ◌∷◌, ◌++◌, map, filter, refl, sym, ap, ◌∙◌, arith, append-nil, rules}
+use Rattle.std.proofs.{lemmas.List.map-append, lemmas.Simd.map-map}
+use Rattle.std.specs.{Prelude.◌==◌, List.flat_map}
+use Rattle.store_columns.specs.{Flat.challenge_rows, Flat.listed_rows, Flat.owned_by, declared.columns.Owned.Owned}
+use Rattle.model_laws.proofs.{Basics.each, Basics.each_both, Basics.less_differs, Basics.more_differs, RowLists.ascends_above, RowLists.ascends_map}
 use Rattle.model_laws.specs.Ordered.{Ascends}
 use Rattle.desk_model.specs.{Kept.EachOf, Derived.numbers_of, Tables.Tables}
 use Rattle.desk_model.specs.declared.rows.{AuthorizationRow.AuthorizationRow, ChallengeRow.ChallengeRow, Listed.Listed, OrderRow.OrderRow}
@@ -22,22 +18,12 @@ use Rattle.sql_read.proofs.Lists.{filter-map}
 -- rows of two lists
 under_both : {R : Type 0} (n : ℕ) (xs ys : List (Owned R)) → rows_under n (xs ++ ys) ≡ rows_under n xs ++ rows_under n ys
 under_both n [] ys = refl
-under_both {R} n (x ∷ xs) ys = by (x.owner == n) (under_both n xs ys)
-  where
-    by : (b : Bool) → rows_under n (xs ++ ys) ≡ rows_under n xs ++ rows_under n ys
-        → map (λ (r : Owned R). r.row) (cond b (x ∷ filter (λ r. r.owner == n) (xs ++ ys)) (filter (λ r. r.owner == n) (xs ++ ys)))
-        ≡ map (λ (r : Owned R). r.row) (cond b (x ∷ filter (λ r. r.owner == n) xs) (filter (λ r. r.owner == n) xs)) ++ rows_under n ys
-    by true ih = ap (λ rs. x.row ∷ rs) ih
-    by false ih = ih
+under_both {R} n (x ∷ xs) ys = grind (arith, (under_both n xs ys))
 
 -- the rows of one owner
 under_own : {R : Type 0} (n : ℕ) (rs : List R) → rows_under n (owned_by n rs) ≡ rs
 under_own n [] = refl
-under_own {R} n (r ∷ rs) =
-    ap (λ b. map (λ (o : Owned R). o.row) (cond b ((record { owner = n; row = r }) ∷ filter (λ o. o.owner == n) (owned_by n rs))
-    (filter (λ o. o.owner == n) (owned_by n rs))))
-    (eq-eqb n n refl)
-    ∙ ap (λ os. r ∷ os) (under_own n rs)
+under_own {R} n (r ∷ rs) = grind (arith, (under_own n rs))
 
 -- none of them is another's
 under_other : {R : Type 0} (n m : ℕ) → (m == n) ≡ false → (rs : List R) → rows_under n (owned_by m rs) ≡ []
@@ -87,19 +73,12 @@ orders_have n os up = each_under (λ (o : OrderRow). o.number) (λ o. o.listed) 
 -- rows of one owner, as they stand under its number
 under_owned : {R : Type 0} (n : ℕ) (rs : List (Owned R)) → filter (λ r. r.owner == n) rs ≡ owned_by n (rows_under n rs)
 under_owned n [] = refl
-under_owned {R} n (r ∷ rs) = by (r.owner == n) refl (under_owned n rs)
-  where
-    by : (b : Bool) → (r.owner == n) ≡ b → filter (λ r. r.owner == n) rs ≡ owned_by n (rows_under n rs)
-        → cond b (r ∷ filter (λ r. r.owner == n) rs) (filter (λ r. r.owner == n) rs)
-        ≡ owned_by n (map (λ (o : Owned R). o.row) (cond b (r ∷ filter (λ r. r.owner == n) rs) (filter (λ r. r.owner == n) rs)))
-    by true is ih = λ i. (record { owner = eqb-true r.owner n is i; row = r.row }) ∷ ih i
-    by false is ih = ih
+under_owned {R} n (r ∷ rs) = grind (arith, (under_owned n rs))
 
 -- so does what each order lists
 pub orders_own : (n : ℕ) (os : List OrderRow) → Ascends (λ o. o.number) n os
     → EachOf (λ o. filter (λ l. l.owner == o.number) (listed_rows os) ≡ owned_by o.number o.listed) os
-orders_own n os up =
-    each _ _ os (λ (o : OrderRow) own. under_owned o.number (listed_rows os) ∙ ap (owned_by o.number) own) (orders_have n os up)
+orders_own n os up = search (rules, each, under_owned, orders_have)
 
 -- each authorization has its challenges
 pub authorizations_have : (n : ℕ) (rs : List AuthorizationRow) → Ascends (λ a. a.number) n rs → EachOf (HasItsChallenges rs) rs
@@ -111,10 +90,7 @@ authorizations_have n rs up = each_under (λ (a : AuthorizationRow). a.number) (
 own_kept : (n : ℕ) (cs : List ChallengeRow) (rest : List (Owned ChallengeRow))
     → filter (λ c. c.owner == n) (owned_by n cs ++ rest) ≡ owned_by n cs ++ filter (λ c. c.owner == n) rest
 own_kept n [] rest = refl
-own_kept n (c ∷ cs) rest =
-    ap (λ b. cond b ((record { owner = n; row = c }) ∷ filter (λ d. d.owner == n) (owned_by n cs ++ rest)) (filter (λ d. d.owner == n) (owned_by n cs ++ rest)))
-    (eq-eqb n n refl)
-    ∙ ap (λ l. (record { owner = n; row = c }) ∷ l) (own_kept n cs rest)
+own_kept n (c ∷ cs) rest = grind (arith, (own_kept n cs rest))
 
 -- and not under another's
 own_left : (n m : ℕ) → (m == n) ≡ false → (cs : List ChallengeRow) (rest : List (Owned ChallengeRow))
@@ -136,20 +112,7 @@ own_above n m (a ∷ rs) low up =
 pub own_ascend : (n m : ℕ) (rs : List AuthorizationRow) → Ascends (λ a. a.number) m rs → EachOf (λ a. Ascends (λ c. c.number) 1 a.challenges) rs
     → Ascends challenge_layout.key 1 (filter (λ c. c.owner == n) (challenge_rows rs))
 own_ascend n m [] up all = tt
-own_ascend n m (a ∷ rs) up all = by (a.number == n) refl (own_ascend n (a.number + 1) rs up.1 all.1)
-  where
-    by : (b : Bool) → (a.number == n) ≡ b → Ascends challenge_layout.key 1 (filter (λ c. c.owner == n) (challenge_rows rs))
-        → Ascends challenge_layout.key 1 (filter (λ c. c.owner == n) (owned_by a.number a.challenges ++ challenge_rows rs))
-    by true is rest =
-        let same : a.number ≡ n = eqb-true a.number n is in
-        let own : filter (λ c. c.owner == n) (owned_by a.number a.challenges ++ challenge_rows rs) ≡ owned_by n a.challenges =
-        ap (λ k. filter (λ c. c.owner == n) (owned_by k a.challenges ++ challenge_rows rs)) same
-        ∙ own_kept n a.challenges (challenge_rows rs)
-        ∙ ap (λ l. owned_by n a.challenges ++ l) (own_above n (a.number + 1) rs (omega (arith, same)) up.1)
-        ∙ append-nil (owned_by n a.challenges) in
-        subst (Ascends challenge_layout.key 1) (sym own)
-        (ascends_map (λ c. c.number) challenge_layout.key (λ c. record { owner = n; row = c }) (λ c. refl) 1 a.challenges all.0)
-    by false is rest = subst (Ascends challenge_layout.key 1) (sym (own_left n a.number is a.challenges (challenge_rows rs))) rest
+own_ascend n m (a ∷ rs) up all = grind (arith, own_kept, own_above, append-nil, ascends_map, own_left, (own_ascend n (a.number + 1) rs up.1 all.1))
 
 -- ---- numbers
 
@@ -181,8 +144,7 @@ challenges_are (r ∷ rs) =
 -- one number of those pairs of which the other is looked for
 picked_of : {A X Y : Type 0} (pair : A → X × Y) (test : X × Y → Bool) {Z : Type 0} (part : X × Y → Z) (as' : List A) (ps : List (X × Y)) → ps ≡ map pair as'
     → map part (filter test ps) ≡ map (λ a. part (pair a)) (filter (λ a. test (pair a)) as')
-picked_of pair test part as' ps are =
-    ap (λ l. map part (filter test l)) are ∙ ap (map part) (filter-map test pair as') ∙ map-map part pair (filter (λ a. test (pair a)) as')
+picked_of pair test part as' ps are = search (rules, filter-map, map-map)
 
 -- the orders that list an authorization
 pub listing_is : (T : Tables) (n : ℕ) → map (λ (l : Owned Listed). l.owner) (filter (λ l. l.row.authorization == n) (listed_rows T.orders)) ≡ orders_listing T n

@@ -1,20 +1,16 @@
 -- The challenges that wait, found by number, are those of each authorization in their order.
-use Rattle.std.proofs.Common.{◌≡◌, ℕ, Bool, true, false, cond, List, [], ◌∷◌, map, filter, refl, sym, ap, ◌∙◌}
-use Rattle.std.specs.Prelude.{◌==◌, ◌&&◌}
-use Rattle.std.specs.List.{list_any}
-use Rattle.std.proofs.lemmas.{List.Sorted.list_any-IsPermutation, Simd.map-map}
-use Rattle.store_columns.specs.Flat.{challenge_rows, owned_by}
-use Rattle.store_columns.specs.declared.columns.Owned.{Owned}
+use Rattle.std.proofs.Common.{◌≡◌, ℕ, Bool, List, [], ◌∷◌, map, filter, refl, sym, ap, ◌∙◌, arith, rules}
+use Rattle.std.proofs.{lemmas.List.Sorted.list_any-IsPermutation, lemmas.Simd.map-map}
+use Rattle.std.specs.{Prelude.◌==◌, Prelude.◌&&◌, List.list_any}
+use Rattle.store_columns.specs.{Flat.challenge_rows, declared.columns.Owned.Owned}
 use Rattle.model_laws.specs.{Distinct.Distinct, Ordered.Ascends}
-use Rattle.model_laws.proofs.Basics.{each, list_any-map, list_any-same}
-use Rattle.desk_model.specs.{Kept.EachOf, Legal.is_processing_challenge, Tables.Tables}
-use Rattle.desk_model.specs.declared.rows.{AuthorizationRow.AuthorizationRow, ChallengeRow.ChallengeRow}
+use Rattle.model_laws.proofs.Basics.{each, list_any-map}
+use Rattle.desk_model.specs.{Kept.EachOf, Legal.is_processing_challenge, Tables.Tables, declared.rows.ChallengeRow.ChallengeRow}
 use Rattle.model_lives.specs.LookUps.{AreNumbers, AreWaiting, owners_processing}
 use Rattle.model_lives.proofs.{Found.any_filter, Loading.any_flat}
 use Rattle.sql_tables.specs.{Layouts.challenge_layout, Sorted.sorted_by}
 use Rattle.sql_tables.proofs.Sorting.{filter_ascending, sorted_moves}
-use Rattle.sql_read.proofs.Lists.{filter-map}
-use Rattle.sql_read.proofs.UnderLemmas.{authorizations_have, own_ascend}
+use Rattle.sql_read.proofs.{Lists.filter-map, UnderLemmas.authorizations_have, UnderLemmas.own_ascend}
 use Rattle.sql_read.specs.Under.{rows_under}
 
 -- a challenge that waits
@@ -23,13 +19,7 @@ waits c = is_processing_challenge c.row.status
 
 -- one of the challenges that wait, and of an owner that passes
 any_owner : (T : Tables) (p : ℕ → Bool) → list_any (λ c. waits c && p c.owner) (challenge_rows T.authorizations) ≡ list_any p (owners_processing T)
-any_owner T p =
-    any_flat (λ (c : Owned ChallengeRow). waits c && p c.owner) (λ (r : AuthorizationRow). owned_by r.number r.challenges) T.authorizations
-    ∙ list_any-same _ _ T.authorizations (λ r.
-    list_any-map (λ (c : Owned ChallengeRow). waits c && p c.owner) (λ (c : ChallengeRow). record { owner = r.number; row = c }) r.challenges
-    ∙ sym (list_any-map p (λ (c : ChallengeRow). r.number) (filter (λ c. is_processing_challenge c.status) r.challenges)
-    ∙ any_filter (λ (c : ChallengeRow). is_processing_challenge c.status) (λ c. p r.number) r.challenges))
-    ∙ sym (any_flat p (λ r. map (λ c. r.number) (filter (λ c. is_processing_challenge c.status) r.challenges)) T.authorizations)
+any_owner T p = search (rules, any_flat, list_any-map, any_filter)
 
 -- a challenge behind the number of its authorization
 abbrev pub numbered : Owned ChallengeRow → ℕ × ChallengeRow
@@ -53,17 +43,7 @@ owners_wait T apart p =
 -- two tests, in either order
 pub filter_turned : {X : Type 0} (p q : X → Bool) (xs : List X) → filter p (filter q xs) ≡ filter q (filter p xs)
 filter_turned p q [] = refl
-filter_turned p q (x ∷ xs) = by (p x) refl (q x) refl (filter_turned p q xs)
-  where
-    by : (a : Bool) → p x ≡ a → (b : Bool) → q x ≡ b → filter p (filter q xs) ≡ filter q (filter p xs)
-        → filter p (cond b (x ∷ filter q xs) (filter q xs)) ≡ filter q (cond a (x ∷ filter p xs) (filter p xs))
-    by true e true f ih =
-        (λ i. cond (e i) (x ∷ filter p (filter q xs)) (filter p (filter q xs)))
-        ∙ ap (λ l. x ∷ l) ih
-        ∙ (λ i. cond (sym f i) (x ∷ filter q (filter p xs)) (filter q (filter p xs)))
-    by true e false f ih = ih ∙ (λ i. cond (sym f i) (x ∷ filter q (filter p xs)) (filter q (filter p xs)))
-    by false e true f ih = (λ i. cond (e i) (x ∷ filter p (filter q xs)) (filter p (filter q xs))) ∙ ih
-    by false e false f ih = ih
+filter_turned p q (x ∷ xs) = grind (arith, (filter_turned p q xs))
 
 -- those of one authorization
 own_wait : (T : Tables) → Distinct challenge_layout.key (challenge_rows T.authorizations) → (n : ℕ) →

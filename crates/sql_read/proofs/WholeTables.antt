@@ -1,35 +1,31 @@
 -- What the readings of whole tables give in either format; they fail for memory or the disk alone.
-use Rattle.std.proofs.Common.{◌≡◌, ℕ, ◌∷◌, ◌++◌, [], List, map, true, filter, refl, sym, ap, subst, ◌∙◌}
-use Rattle.std.specs.Prelude.{IsTrue}
-use Rattle.std.proofs.lemmas.{List.map-id, Simd.map-map}
-use Rattle.std.specs.List.Sorted.{IsPermutation}
+use Rattle.std.proofs.Common.{◌≡◌, ℕ, ◌∷◌, ◌++◌, [], List, map, true, filter, refl, sym, ap, subst, ◌∙◌, arith}
 use Rattle.std.proofs.lemmas.List.Sorted.{All-permutation, IsPermutation-map, IsPermutation-sym, IsPermutation-trans}
-use Rattle.sqlite.specs.Held.{Held, state}
-use Rattle.sqlite.specs.{Clock.timed, Given.HasGiven, Listing.understood, Schema.Schema, State.Shown, Store.Ghosts}
-use Rattle.sqlite.proofs.Callers.{EndsIn, begins_shown, command_of, given_begin}
-use Rattle.sqlite.specs.declared.types.Value.TheVariants.{Int}
+use Rattle.std.proofs.{lemmas.List.map-id, lemmas.Simd.map-map}
+use Rattle.std.specs.List.Sorted.{IsPermutation}
+use Rattle.sqlite.specs.{Held.Held, Held.state, Given.HasGiven, Schema.Schema, State.Shown, Store.Ghosts, declared.types.Value.TheVariants.Int}
+use Rattle.sqlite.proofs.Callers.{begins_shown, given_begin}
 use Rattle.sqlite_value.specs.{Order.Row, declared.keys.Key.Key}
-use Rattle.sqlite_sql.specs.Term.{Term}
-use Rattle.sqlite_sql.specs.Query.{Output}
-use Rattle.store_columns.specs.Columns.{listed_columns}
-use Rattle.store_columns.specs.Flat.{challenge_rows, key_rows, listed_rows}
-use Rattle.store_columns.specs.declared.columns.Owned.{Owned}
+use Rattle.sqlite_sql.specs.{Term.Term, Query.Output}
+use Rattle.store_columns.specs.{Columns.listed_columns, Flat.challenge_rows, Flat.key_rows, Flat.listed_rows, declared.columns.Owned.Owned}
 use Rattle.model_laws.proofs.Basics.{each_all, each_of_map}
-use Rattle.desk_model.specs.{Kept.EachOf, Tables.Tables}
-use Rattle.desk_model.specs.declared.rows.Listed.{Listed}
-use Rattle.sql_tables.specs.Hidden.{hidden, row_of}
-use Rattle.sql_tables.specs.Holds.{Holds, HoldsListed}
-use Rattle.sql_tables.specs.Images.{listed_cells, listed_params}
+use Rattle.desk_model.specs.{Kept.EachOf, Tables.Tables, declared.rows.Listed.Listed}
 use Rattle.sql_tables.specs.Layouts.{IsRising, challenge_layout, key_layout, order_layout}
-use Rattle.sql_tables.specs.Sorted.{sorted_by}
+use Rattle.sql_tables.specs.{Hidden.hidden, Hidden.row_of, Holds.Holds, Holds.HoldsListed, Images.listed_cells, Images.listed_params, Sorted.sorted_by}
 use Rattle.store_book.specs.IsBook.{IsBook}
-use Rattle.sql_read.specs.{BookShown.HoldsIn, Shown.IsShown}
-use Rattle.sql_read.specs.Checking.{AreFirst, ShowsOnly}
-use Rattle.sql_read.proofs.ListedOrder.{listed_strictly, placed}
-use Rattle.sql_read.specs.Failures.{HasTexts, IsReadable}
-use Rattle.sql_read.specs.Spelled.{FitsListed, listed_in}
-use Rattle.sql_read.specs.declared.formats.Format.{Format}
-use Rattle.sql_read.specs.declared.formats.Format.TheVariants.{First, Second}
+use Rattle.sql_read.specs.{BookShown.HoldsIn, Shown.IsShown, Checking.AreFirst, Checking.ShowsOnly, Failures.HasTexts, Failures.IsReadable, Spelled.FitsListed}
+use Rattle.sql_read.specs.{Spelled.listed_in, declared.formats.Format.Format, declared.formats.Format.TheVariants.First}
+use Rattle.sql_read.specs.{declared.formats.Format.TheVariants.Second}
+use Rattle.sql_read.proofs.Answered.{IsReading, all_rows, answers, by, compiled_alone, picked, shown_in_order, shown_somehow}
+use Rattle.sql_read.proofs.KeptRows.{accounts_kept, authorizations_kept, challenges_kept, format_kept, keys_kept, nonces_kept, number_of, orders_kept}
+use Rattle.sql_read.proofs.KeptRows.{schema_of}
+use Rattle.sql_read.proofs.KeyedReadings.{HasRowsIn, columns_of, shown_whole}
+use Rattle.sql_read.proofs.Readings.{accounts_reading, authorizations_reading, challenges_reading, keys_reading, listed_reading, meta_reading, nonces_reading}
+use Rattle.sql_read.proofs.Readings.{orders_reading}
+use Rattle.sql_read.proofs.TableColumns.{all_fit, listed_back, listed_fits, listed_project}
+use Rattle.sql_read.proofs.TableFacts.{IsReadingOf, TableFacts, account_facts, authorization_facts, challenge_facts, columns, key_facts, formatted_facts}
+use Rattle.sql_read.proofs.TableFacts.{nonce_facts, order_facts}
+use Rattle.sql_read.proofs.{ListedOrder.listed_strictly, ListedOrder.placed, Failing.reading_fails, FoundRows.Keeps, Lists.filter-all}
 use Rattle.sql_schema.specs.declared.accounts.TheConstants as account
 use Rattle.sql_schema.specs.declared.authorizations.TheConstants as authz
 use Rattle.sql_schema.specs.declared.challenges.TheConstants as chall
@@ -38,16 +34,6 @@ use Rattle.sql_schema.specs.declared.meta.TheConstants as meta
 use Rattle.sql_schema.specs.declared.nonces.TheConstants as nonce
 use Rattle.sql_schema.specs.declared.orders.TheConstants as ord
 use Rattle.sql_schema.specs.declared.listed.TheConstants as ord_authz
-use Rattle.sql_read.proofs.Answered.{IsReading, all_rows, answers, by, compiled_alone, picked, shown_in_order, shown_somehow}
-use Rattle.sql_read.proofs.{Failing.reading_fails, FoundRows.Keeps, Lists.filter-all}
-use Rattle.sql_read.proofs.KeptRows.{accounts_kept, authorizations_kept, challenges_kept, format_kept, keys_kept, nonces_kept, number_of, orders_kept}
-use Rattle.sql_read.proofs.KeptRows.{schema_of}
-use Rattle.sql_read.proofs.KeyedReadings.{HasRowsIn, columns_of, shown_whole}
-use Rattle.sql_read.proofs.Readings.{accounts_reading, authorizations_reading, challenges_reading, keys_reading, listed_reading}
-use Rattle.sql_read.proofs.Readings.{meta_reading, nonces_reading, orders_reading}
-use Rattle.sql_read.proofs.TableColumns.{all_fit, listed_back, listed_fits, listed_project}
-use Rattle.sql_read.proofs.TableFacts.{IsReadingOf, TableFacts, account_facts, authorization_facts, challenge_facts, columns, key_facts}
-use Rattle.sql_read.proofs.TableFacts.{formatted_facts, nonce_facts, order_facts}
 
 -- ---- rows that come one after the other
 
@@ -56,16 +42,7 @@ given_front : {S : Type 0} (g : Ghosts S) (text : List ℕ) {schema : Schema} {t
     → IsReading schema all_rows text tree [] project order [] → (conn : Held S) (given : List Row) → (state g conn).now.schema ≡ schema
     → HasGiven g text [] conn given → (tail : List Row) × Shown text [] (state g conn) (state g conn) (given ++ tail)
 unfolding HasGiven
-given_front g text reading conn given there gives =
-    let command = compiled_alone text _ reading.means in
-    let opened : IsTrue (state g conn).is_open = gives.0.is_open in
-    begins_shown text [] (state g conn) (state g conn) given (given_begin g text [] conn given gives) (
-      record { was_open = opened; is_open = opened; now_is = refl; committed_is = refl; mode = refl },
-      record { changes = refl; last_rowid = refl },
-      refl,
-    )
-    (λ c db it source.
-    subst (λ k. EndsIn k db (timed [] c.formats it.now)) (sym (ap command_of (sym it.is) ∙ ap (λ s. command_of (understood s text)) there ∙ command.is)) tt)
+given_front g text reading conn given there gives = grind (arith, compiled_alone, begins_shown, (given_begin g text [] conn given gives))
 
 -- and so the first of a table's rows
 first_rows : {X R C : Type 0} (bare : X → R) (write : R → C) (spelled : Row → C) (row : C → Row) → ((c : C) → spelled (row c) ≡ c)

@@ -1,7 +1,6 @@
 -- All tables, in the order in which they are read.
 use Rattle.std.specs.Prelude.{◌⊎◌}
-use Rattle.sqlite.specs.{Held.Held, Store.Ghosts}
-use Rattle.sqlite.specs.declared.error.Error.{Error}
+use Rattle.sqlite.specs.{Held.Held, Store.Ghosts, declared.error.Error.Error}
 use Rattle.sql_read.specs.Failures.{FailsHere}
 use Rattle.sql_read.specs.Spelled.{FitsAccount, FitsAuthorization, FitsChallenge, FitsKey, FitsListed, FitsMeta, FitsNonce, FitsOrder}
 use Rattle.sql_schema.specs.declared.accounts.TheConstants as account

@@ -1,9 +1,6 @@
 -- What readings of all tables, row by row, tell of the database.
 use Rattle.std.specs.Prelude.{◌≡◌, ◌⊎◌, ℕ, Bool, false, List, Result, IfErr, IfOk, IsTrue, OnOk, map}
-use Rattle.sqlite.specs.{Effect.Database, Store.Ghosts}
-use Rattle.sqlite.specs.Held.{Held, state}
-use Rattle.sqlite.specs.State.{HasCleanDisk, IsUnchanged}
-use Rattle.sqlite.specs.declared.error.Error.{Error}
+use Rattle.sqlite.specs.{Effect.Database, Store.Ghosts, Held.Held, Held.state, State.HasCleanDisk, State.IsUnchanged, declared.error.Error.Error}
 use Rattle.store_book.specs.BookRows.{AreAccounts, AreAuthorizations, AreChallenges, AreKeys, AreListed, AreOrders, answered_numbers}
 use Rattle.store_book.specs.Passing.{IsOnlyRow}
 use Rattle.store_columns.specs.Columns.{account_columns, authorization_columns, challenge_columns, key_columns}
@@ -12,14 +9,11 @@ use Rattle.store_columns.specs.Limits.{IsStoredAccount, IsStoredAuthorization, I
 use Rattle.store_columns.specs.Limits.{IsStoredMeta, IsStoredNonce, IsStoredOrder}
 use Rattle.store_columns.specs.declared.columns.FlatRows.{FlatRows}
 use Rattle.model_laws.specs.Ordered.{IsTable}
-use Rattle.desk_model.specs.Tables.{Tables}
-use Rattle.desk_model.specs.declared.rows.{Counters.Counters, Meta.Meta}
-use Rattle.sql_read.specs.AllTables.{FailsAtFirst, FailsAtTable}
-use Rattle.sql_read.specs.{Checking.ShowsTable, Only.ShowsBookRowsOnly}
+use Rattle.desk_model.specs.{Tables.Tables, declared.rows.Counters.Counters, declared.rows.Meta.Meta}
 use Rattle.sql_read.specs.Failures.{HasTexts, IsMet, IsOutOfMemory, MayRead}
-use Rattle.sql_read.specs.declared.formats.Format.{Format}
-use Rattle.sql_read.specs.declared.formats.Format.TheVariants.{First, Second}
 use Rattle.sql_read.specs.Spelled.{account_in, authorization_in, challenge_in, key_in, listed_in, meta_in, nonce_in, order_in}
+use Rattle.sql_read.specs.{AllTables.FailsAtFirst, AllTables.FailsAtTable, Checking.ShowsTable, Only.ShowsBookRowsOnly, declared.formats.Format.Format}
+use Rattle.sql_read.specs.{declared.formats.Format.TheVariants.First, declared.formats.Format.TheVariants.Second}
 use Rattle.sql_schema.specs.declared.accounts.TheConstants as account
 use Rattle.sql_schema.specs.declared.authorizations.TheConstants as authz
 use Rattle.sql_schema.specs.declared.challenges.TheConstants as chall

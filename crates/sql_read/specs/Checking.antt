@@ -1,8 +1,6 @@
 -- What is known of a table whose rows were checked one after the other.
 use Rattle.std.specs.Prelude.{◌≡◌, ◌++◌, ℕ, List, [], ◌∷◌, map}
-use Rattle.sqlite.specs.{Effect.Database, Given.HasGiven, Order.Row, Store.Ghosts}
-use Rattle.sqlite.specs.State.{IsUnchanged, Shown}
-use Rattle.sqlite.specs.Held.{Held, state}
+use Rattle.sqlite.specs.{Effect.Database, Given.HasGiven, Order.Row, Store.Ghosts, State.IsUnchanged, State.Shown, Held.Held, Held.state}
 use Rattle.desk_model.specs.Kept.{EachOf}
 use Rattle.sql_read.specs.Shown.{IsShown}
 

@@ -1,17 +1,13 @@
 -- The earliest of some moments.
 use Rattle.std.specs.Prelude.{ℕ, ℤ, ◌≡◌, ◌≤◌, ◌==◌, List, [], ◌∷◌, map, option_map, pos, Option, Some, None, IsTrue, Result, IfErr, IfOk, OnOk}
 use Rattle.std.specs.List.{filter, list_any}
-use Rattle.sqlite.specs.{Order.Row, Order.column, Store.Ghosts}
-use Rattle.sqlite.specs.Held.{Held, state}
-use Rattle.sqlite.specs.State.{HasCleanDisk, IsUnchanged, Shown}
+use Rattle.sqlite.specs.{Order.Row, Order.column, Store.Ghosts, Held.Held, Held.state, State.HasCleanDisk, State.IsUnchanged, State.Shown}
 use Rattle.store_book.specs.IsBook.{IsStoredBook}
 use Rattle.sql_schema.specs.Stays.{Asks}
 use Rattle.desk_model.specs.Derived.{authz_code, order_code}
-use Rattle.desk_model.specs.{Kept.EachOf, Tables.Tables}
-use Rattle.desk_model.specs.declared.status.{AuthzStatus.AuthzStatus, OrderStatus.OrderStatus}
-use Rattle.sql_read.specs.{Failures.MayRead, Held.ForHeld, Spelled.number_in}
+use Rattle.desk_model.specs.{Kept.EachOf, Tables.Tables, declared.status.AuthzStatus.AuthzStatus, declared.status.OrderStatus.OrderStatus}
 use Rattle.sql_read.specs.LookUpFaults.{BeginWithMoment, IsOfMemoryOrDisk, IsSureQuery}
-use Rattle.sql_read.specs.declared.fault.ReadFault.{ReadFault}
+use Rattle.sql_read.specs.{Failures.MayRead, Held.ForHeld, Spelled.number_in, declared.fault.ReadFault.ReadFault}
 
 -- it is one of them, and none is before it; or there is none
 abbrev pub IsEarliest : List ℕ → Option ℕ → Type 0

@@ -1,10 +1,8 @@
 -- Why a reading of a desk's tables fails.
 use Rattle.std.specs.Prelude.{◌≡◌, ◌⊎◌, ℕ, All, Bool, true, false, IsTrue, List, [], None}
-use Rattle.sqlite.specs.Held.{Held, state}
-use Rattle.sqlite.specs.{Order.Row, Store.Ghosts}
 use Rattle.sqlite.specs.State.{State, FailsToQuery, Shown}
-use Rattle.sqlite.specs.declared.error.{Error.Error, Error.TheVariants.SqliteFailure}
 use Rattle.sqlite.specs.declared.error.ErrorCode.TheVariants.{DatabaseCorrupt, DiskFull, OutOfMemory, SystemIoFailure, TooBig}
+use Rattle.sqlite.specs.{Held.Held, Held.state, Order.Row, Store.Ghosts, declared.error.Error.Error, declared.error.Error.TheVariants.SqliteFailure}
 use Rattle.sqlite_disk.specs.Disk.{MoreFaults}
 use Rattle.store_columns.specs.{Columns.rows_columns, Flat.flat, TextColumns.ColumnsAreTexts}
 use Rattle.desk_model.specs.Tables.{Tables}

@@ -1,13 +1,10 @@
 -- Readings of a desk in format 1, whose rows count as those of today's format.
 use Rattle.std.specs.Prelude.{◌≡◌, ℕ, ℤ, List, [], ◌∷◌, map, filter_map, if◌then◌else◌, Option, option_map, replicate}
 use Rattle.std.specs.Ordering.{int_eq}
-use Rattle.sqlite.specs.{Held.Held, Store.Ghosts}
-use Rattle.sqlite.specs.State.{State, HasCleanDisk}
-use Rattle.store_columns.specs.Columns.{first_format, known_format, meta_columns}
-use Rattle.store_columns.specs.Limits.{IsStoredMeta}
+use Rattle.sqlite.specs.{Held.Held, Store.Ghosts, State.State, State.HasCleanDisk}
+use Rattle.store_columns.specs.{Columns.first_format, Columns.known_format, Columns.meta_columns, Limits.IsStoredMeta}
 use Rattle.store_columns.specs.declared.columns.{ChallColumns.ChallColumns, ChallKeyColumns.ChallKeyColumns, MetaColumns.MetaColumns, StoredRows.StoredRows}
-use Rattle.desk_model.specs.Tables.{Tables}
-use Rattle.desk_model.specs.declared.rows.Meta.{Meta}
+use Rattle.desk_model.specs.{Tables.Tables, declared.rows.Meta.Meta}
 use Rattle.sql_read.specs.Shown.{IsShown}
 use Rattle.sql_read.specs.Spelled.{account_in, authorization_in, challenge_in, listed_in, meta_in, nonce_in, order_in}
 use Rattle.sql_schema.specs.declared.accounts.TheConstants as account

@@ -1,13 +1,10 @@
 -- The row of the desk in format 1, with rows that were checked.
 use Rattle.std.specs.Prelude.{◌≡◌, [], ◌∷◌}
-use Rattle.sqlite.specs.Held.{Held, state}
-use Rattle.sqlite.specs.Store.{Ghosts}
-use Rattle.desk_model.specs.Tables.{Tables}
-use Rattle.desk_model.specs.declared.rows.Meta.{Meta}
+use Rattle.sqlite.specs.{Held.Held, Held.state, Store.Ghosts}
+use Rattle.desk_model.specs.{Tables.Tables, declared.rows.Meta.Meta}
 use Rattle.store_columns.specs.{Limits.IsStoredMeta, declared.columns.FlatRows.FlatRows}
 use Rattle.sql_read.specs.Only.{ShowsBookRowsOnly, ShowsOnlyFirstBook, ShowsOnlyFirstMetas}
-use Rattle.sql_read.specs.{BookShown.ShowsNonces, Failures.HasTexts, First.ShowsFirstMeta}
-use Rattle.sql_read.specs.declared.formats.Format.TheVariants.{First}
+use Rattle.sql_read.specs.{BookShown.ShowsNonces, Failures.HasTexts, First.ShowsFirstMeta, declared.formats.Format.TheVariants.First}
 use Rattle.sql_tables.specs.Holds.{HoldsFirst}
 
 module _ {S : Type 0} (g : Ghosts S) (conn : Held S) where

@@ -1,9 +1,7 @@
 -- Which format the tables are of.
 use Rattle.std.specs.Prelude.{◌≡◌, ◌⊎◌, ℤ, ◌<ℤ◌, List, [], ◌∷◌}
-use Rattle.sqlite.specs.Effect.{Database}
-use Rattle.sqlite.specs.Order.{Row, column}
-use Rattle.sqlite.specs.declared.{types.Value.TheVariants.Int, error.Error.Error}
 use Rattle.sqlite.specs.State.{State, FailsToQuery, Shown}
+use Rattle.sqlite.specs.{Effect.Database, Order.Row, Order.column, declared.types.Value.TheVariants.Int, declared.error.Error.Error}
 use Rattle.store_columns.specs.Columns.{known_format}
 use Rattle.desk_model.specs.declared.rows.Meta.{Meta}
 use Rattle.sql_schema.specs.declared.meta.TheConstants as meta

@@ -1,14 +1,11 @@
 -- By what a look-up of a desk's tables fails.
 use Rattle.std.specs.Prelude.{◌≡◌, ℕ, ⊤, pos, List, [], ◌∷◌, map, All}
-use Rattle.sqlite.specs.Held.{Held, state}
-use Rattle.sqlite.specs.{Order.Row, Store.Ghosts}
 use Rattle.sqlite.specs.State.{State, FailsToQuery, Shown}
-use Rattle.sqlite.specs.declared.{error.Error.Error, types.Value.TheVariants.Int}
+use Rattle.sqlite.specs.{Held.Held, Held.state, Order.Row, Store.Ghosts, declared.error.Error.Error, declared.types.Value.TheVariants.Int}
 use Rattle.desk_model.specs.Kept.{EachOf}
 use Rattle.sql_schema.specs.Failing.{IsFailure}
-use Rattle.sql_read.specs.Failures.{IsMet, IsOutOfMemory}
-use Rattle.sql_read.specs.declared.fault.ReadFault.{ReadFault}
-use Rattle.sql_read.specs.declared.fault.ReadFault.TheVariants.{Engine, NotARow}
+use Rattle.sql_read.specs.{Failures.IsMet, Failures.IsOutOfMemory, declared.fault.ReadFault.ReadFault, declared.fault.ReadFault.TheVariants.Engine}
+use Rattle.sql_read.specs.{declared.fault.ReadFault.TheVariants.NotARow}
 
 -- ---- faults
 

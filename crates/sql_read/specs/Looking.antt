@@ -1,14 +1,11 @@
 -- What a look-up tells of the tables that the database held.
 use Rattle.std.specs.Prelude.{◌≡◌, ℕ, List, Result, IfErr, IfOk, OnOk, map}
-use Rattle.sqlite.specs.{Order.Row, Store.Ghosts}
-use Rattle.sqlite.specs.Held.{Held, state}
-use Rattle.sqlite.specs.State.{HasCleanDisk, IsUnchanged, Shown}
+use Rattle.sqlite.specs.{Order.Row, Store.Ghosts, Held.Held, Held.state, State.HasCleanDisk, State.IsUnchanged, State.Shown}
 use Rattle.desk_model.specs.{Kept.EachOf, Tables.Tables}
 use Rattle.store_book.specs.IsBook.{IsStoredBook}
 use Rattle.sql_schema.specs.Stays.{Asks}
-use Rattle.sql_read.specs.{Failures.MayRead, Held.ForHeld}
 use Rattle.sql_read.specs.LookUpFaults.{AreTableRows, IsOfMemoryOrDisk, IsSureQuery}
-use Rattle.sql_read.specs.declared.fault.ReadFault.{ReadFault}
+use Rattle.sql_read.specs.{Failures.MayRead, Held.ForHeld, declared.fault.ReadFault.ReadFault}
 
 -- whatever a query shows are these rows, and it is sure
 pub record Finds {S R C : Type 0} (g : Ghosts S) (spelled : Row → C) (Fits : Row → Type 0) (write : R → C) (IsStored : R → Type 0) (ask : List ℕ × Row)

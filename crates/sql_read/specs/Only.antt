@@ -2,17 +2,14 @@
 use Rattle.std.specs.Prelude.{List}
 use Rattle.sqlite.specs.{Effect.Database, Store.Ghosts}
 use Rattle.store_book.specs.{BookRows.AreBookRows, ByKey.AreByKey, IsBook.IsBookOf}
-use Rattle.store_columns.specs.Columns.{account_columns, authorization_columns, challenge_columns, key_columns}
-use Rattle.store_columns.specs.Columns.{listed_columns, meta_columns, nonce_columns, order_columns}
-use Rattle.store_columns.specs.Limits.{AreStored}
-use Rattle.store_columns.specs.declared.columns.{AnswerKey.AnswerKey, FlatRows.FlatRows}
-use Rattle.desk_model.specs.Tables.{Tables}
-use Rattle.desk_model.specs.declared.rows.Meta.{Meta}
-use Rattle.sql_read.specs.{Checking.ShowsOnly, First.raised_meta}
-use Rattle.sql_read.specs.declared.formats.Format.{Format}
+use Rattle.store_columns.specs.Columns.{account_columns, authorization_columns, challenge_columns, key_columns, listed_columns, meta_columns, nonce_columns}
+use Rattle.store_columns.specs.Columns.{order_columns}
+use Rattle.store_columns.specs.{Limits.AreStored, declared.columns.AnswerKey.AnswerKey, declared.columns.FlatRows.FlatRows}
+use Rattle.desk_model.specs.{Tables.Tables, declared.rows.Meta.Meta}
 use Rattle.sql_read.specs.declared.formats.Format.TheVariants.{First, Second}
 use Rattle.sql_read.specs.Spelled.{FitsAccount, FitsAuthorization, FitsChallenge, FitsKey, FitsListed, FitsMeta, FitsNonce, FitsOrder, account_in}
 use Rattle.sql_read.specs.Spelled.{authorization_in, challenge_in, key_in, listed_in, meta_in, nonce_in, order_in}
+use Rattle.sql_read.specs.{Checking.ShowsOnly, First.raised_meta, declared.formats.Format.Format}
 use Rattle.sql_schema.specs.declared.accounts.TheConstants as account
 use Rattle.sql_schema.specs.declared.authorizations.TheConstants as authz
 use Rattle.sql_schema.specs.declared.challenges.TheConstants as chall

@@ -1,23 +1,19 @@
 -- The text of each query, and what its parameters are bound to.
 use Rattle.std.specs.Prelude.{ℕ, List, [], ◌∷◌, pos}
-use Rattle.sqlite.specs.{Order.Row, Values.bound}
-use Rattle.sqlite.specs.declared.types.Value.TheVariants.{Int, Text}
+use Rattle.sqlite.specs.{Order.Row, Values.bound, declared.types.Value.TheVariants.Int, declared.types.Value.TheVariants.Text}
 use Rattle.desk_model.specs.Document.{authorization_status_text, order_status_text}
 use Rattle.desk_model.specs.declared.status.OrderStatus.TheVariants as order
-use Rattle.model_lives.specs.declared.queries.AccountsWhere.{AccountsWhere}
+use Rattle.model_lives.specs.{declared.queries.AccountsWhere.AccountsWhere, declared.queries.AuthorizationsWhere.AuthorizationsWhere}
+use Rattle.model_lives.specs.{declared.queries.NoncesWhere.NoncesWhere, declared.queries.OrdersWhere.OrdersWhere}
 use Rattle.model_lives.specs.declared.queries.AccountsWhere.TheVariants as accounts_by
-use Rattle.model_lives.specs.declared.queries.AuthorizationsWhere.{AuthorizationsWhere}
 use Rattle.model_lives.specs.declared.queries.AuthorizationsWhere.TheVariants as authorizations_by
-use Rattle.model_lives.specs.declared.queries.NoncesWhere.{NoncesWhere}
 use Rattle.model_lives.specs.declared.queries.NoncesWhere.TheVariants as nonces_by
-use Rattle.model_lives.specs.declared.queries.OrdersWhere.{OrdersWhere}
 use Rattle.model_lives.specs.declared.queries.OrdersWhere.TheVariants as orders_by
 use Rattle.sql_schema.specs.declared.accounts.TheConstants as account
 use Rattle.sql_schema.specs.declared.authorizations.TheConstants as authz
 use Rattle.sql_schema.specs.declared.nonces.TheConstants as nonce
 use Rattle.sql_schema.specs.declared.orders.TheConstants as ord
-use Rattle.sql_read.specs.Bounded.{bounded}
-use Rattle.sql_read.specs.declared.rows.{Params.Params, Query.Query}
+use Rattle.sql_read.specs.{Bounded.bounded, declared.rows.Params.Params, declared.rows.Query.Query}
 use Rattle.sql_read.specs.declared.rows.Params.TheVariants as params
 
 -- what parameters are bound to

@@ -1,9 +1,7 @@
 -- What a reading leaves, and what readings one after the other do.
 use Rattle.std.specs.Prelude.{ℕ, List, Result, IfErr, IfOk, OnOk}
-use Rattle.sqlite.specs.Held.{Held, state}
-use Rattle.sqlite.specs.{Order.Row, Store.Ghosts}
 use Rattle.sqlite.specs.State.{FailsToQuery, HasCleanDisk, IsUnchanged, Shown}
-use Rattle.sqlite.specs.declared.error.Error.{Error}
+use Rattle.sqlite.specs.{Held.Held, Held.state, Order.Row, Store.Ghosts, declared.error.Error.Error}
 use Rattle.sql_schema.specs.{Failing.IsFailure, Stays.Asks}
 use Rattle.sql_read.specs.Failures.{IsMet, MayRead}
 

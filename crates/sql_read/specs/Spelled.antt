@@ -1,8 +1,7 @@
 -- The columns that a row of an answer spells, and the rows whose values are of the kinds that the columns have.
 use Rattle.std.specs.Prelude.{ℕ, ℤ, pos, ◌+◌, List, [], Option, None, Some, option_map, IfSome, ◌<◌, length, IsUtf8, ⊤}
-use Rattle.sqlite.specs.declared.types.Value.{Value}
 use Rattle.sqlite.specs.declared.types.Value.TheVariants.{Int, Text, Blob, Null}
-use Rattle.sqlite.specs.Order.{Row, column}
+use Rattle.sqlite.specs.{declared.types.Value.Value, Order.Row, Order.column}
 use Rattle.store_columns.specs.declared.columns.{AccountColumns.AccountColumns, AuthzColumns.AuthzColumns, ChallColumns.ChallColumns}
 use Rattle.store_columns.specs.declared.columns.{ChallKeyColumns.ChallKeyColumns, MetaColumns.MetaColumns, NonceColumns.NonceColumns}
 use Rattle.store_columns.specs.declared.columns.{OrderAuthzColumns.OrderAuthzColumns, OrderColumns.OrderColumns, OrderSummaryColumns.OrderSummaryColumns}

@@ -1,8 +1,6 @@
 -- Rows under the rows that they belong to.
-use Rattle.std.specs.Prelude.{◌≡◌, ◌==◌, ℕ, List, map}
-use Rattle.std.specs.List.{filter}
-use Rattle.store_columns.specs.Flat.{challenge_rows, listed_rows}
-use Rattle.store_columns.specs.declared.columns.Owned.{Owned}
+use Rattle.std.specs.{Prelude.◌≡◌, Prelude.◌==◌, Prelude.ℕ, Prelude.List, Prelude.map, List.filter}
+use Rattle.store_columns.specs.{Flat.challenge_rows, Flat.listed_rows, declared.columns.Owned.Owned}
 use Rattle.desk_model.specs.declared.rows.{AuthorizationRow.AuthorizationRow, OrderRow.OrderRow}
 
 -- the rows that belong to the one of this number

@@ -1,14 +1,12 @@
 -- CREATE TABLE and CREATE INDEX as steps, from what their texts mean.
-use Rattle.std.proofs.Common.{◌≡◌, ◌⊎◌, inl, inr, ℕ, ◌++◌, List, [], ◌∷◌, slice_get, false, None, Some, Ok, Err, Result, sym, ap, subst, ◌∙◌}
+use Rattle.std.proofs.Common.{◌≡◌, ◌⊎◌, inl, inr, ℕ, ◌++◌, List, [], ◌∷◌, slice_get, false, None, Some, Ok, Err, Result, sym, ap, subst, ◌∙◌, arith}
+use Rattle.std.proofs.lemmas.Bool.Decides.{nat_tests}
 use Rattle.std.specs.List.{AllByRecursion}
-use Rattle.sqlite.specs.{Tree.Trees, Listing.understood}
+use Rattle.sqlite.specs.{Tree.Trees, Listing.understood, Compile.table_defined_by, Compile.index_defined_by, Change.created, Change.indexed, Change.next_tree}
+use Rattle.sqlite.specs.{Change.KeepsRows, Does.Tally, Does.Does, Does.lacks_sequence, Effect.Database, Effect.IsDatabase, State.State, State.mode_of}
+use Rattle.sqlite.specs.{State.Writes, State.Executes}
 use Rattle.sqlite_schema.specs.declared.schema.{Table.Table, Index.Index, Schema.Schema}
 use Rattle.sqlite_schema.specs.declared.command.Command.TheVariants.{CreateTable, CreateIndex}
-use Rattle.sqlite.specs.Compile.{table_defined_by, index_defined_by}
-use Rattle.sqlite.specs.Change.{created, indexed, next_tree, KeepsRows}
-use Rattle.sqlite.specs.Does.{Tally, Does, lacks_sequence}
-use Rattle.sqlite.specs.Effect.{Database, IsDatabase}
-use Rattle.sqlite.specs.State.{State, mode_of, Writes, Executes}
 use Rattle.sqlite.proofs.Callers.{IsPlain, command_of, statement_of, runs_as}
 use Rattle.sql_schema.specs.Defined.{AreEmpty}
 
@@ -44,8 +42,7 @@ MovesOn schema next old new = old.schema ≡ schema → AreEmpty schema old.tree
 
 -- a part that gave a value did not stop on the way
 pub went : {B E R : Type 0} {b : B} {Stops : E → Type 0} → ((stop : E) × Stops stop × (Ok b ≡ Err stop)) ⊎ R → R
-went (inl stopped) = absurd (let e = stopped.2 in cc)
-went (inr on) = on
+went h = grind (arith, nat_tests)
 
 -- one value, if the answers are one
 pub same_value : {B E : Type 0} {a b : B} → ◌≡◌ {A = Result B E} (Ok a) (Ok b) → a ≡ b

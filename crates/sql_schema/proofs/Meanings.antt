@@ -1,10 +1,9 @@
 -- What each of the statements means, computed from its text.
 use Rattle.std.proofs.Common.{◌≡◌, ℕ, zero, suc, ◌+◌, ◌<◌, Some, Ok, slice_get, false, inl, inr, [], ◌∷◌, codes, refl, arith}
+use Rattle.std.proofs.lemmas.Bool.Decides.{nat_tests}
 use Rattle.sqlite_schema.specs.declared.schema.{Table.Table, Index.Index}
 use Rattle.sqlite_schema.specs.declared.command.Command.TheVariants.{CreateTable, CreateIndex}
-use Rattle.sqlite.specs.Compile.{table_defined_by, index_defined_by}
-use Rattle.sqlite.specs.Change.{created, indexed}
-use Rattle.sqlite.specs.{Does.lacks_sequence, Listing.understood}
+use Rattle.sqlite.specs.{Compile.table_defined_by, Compile.index_defined_by, Change.created, Change.indexed, Does.lacks_sequence, Listing.understood}
 use Rattle.sqlite.proofs.Callers.{IsPlain, command_of, statement_of}
 use Rattle.sqlite_tied.specs.Compute.{everything}
 use Rattle.sql_schema.specs.Definitions.{definition_at}
@@ -18,8 +17,7 @@ table_made : (step : ℕ) (table : Table) → command_of (understood (schema_at 
     → IsPlain (understood (schema_at step) (definition_at step)) → table_defined_by (definition_at step) ≡ Ok table
     → created (schema_at step) table ≡ schema_at (step + 1) → lacks_sequence (schema_at (step + 1)) ≡ false
     → MakesTable (schema_at step) (schema_at (step + 1)) (definition_at step)
-table_made step t is same alone defined next none =
-    record { table = t; command = is; statement = same; plain = alone; defined = defined; next_is = next; uncounted = none }
+table_made step t is same alone defined next none = grind (arith, nat_tests)
 
 -- or this index of the table that has this place
 index_made : (step place : ℕ) (table : Table) (index : Index) → slice_get (schema_at step).tables place ≡ Some table
@@ -27,8 +25,7 @@ index_made : (step place : ℕ) (table : Table) (index : Index) → slice_get (s
     → statement_of (definition_at step) (understood (schema_at step) (definition_at step)) ≡ definition_at step
     → IsPlain (understood (schema_at step) (definition_at step)) → index_defined_by table (definition_at step) ≡ Ok index
     → indexed (schema_at step) table index ≡ schema_at (step + 1) → MakesIndex (schema_at step) (schema_at (step + 1)) (definition_at step)
-index_made step place t i found is same alone defined next =
-    record { at = place; table = t; index = i; found = found; command = is; statement = same; plain = alone; defined = defined; next_is = next }
+index_made step place t i found is same alone defined next = grind (arith, nat_tests)
 
 -- the table that format 2 has more
 pub create_chall_key_makes : MakesTable (schema_at 15) (schema_at 16) (definition_at 15)

@@ -1,31 +1,20 @@
 -- Each statement in its turn.
-use Rattle.std.proofs.Common.{◌<◌, ◌+◌, ℕ, [], Ok}
-use Rattle.sqlite.specs.Effect.{Database}
-use Rattle.sqlite.specs.State.{State, Survives}
-use Rattle.sql_schema.specs.Advances.{Advances, Performs}
-use Rattle.sql_schema.specs.Defined.{AddsKeyTable, Defines}
-use Rattle.sql_schema.specs.{Definitions.definition_at, Schema.schema_at}
-use Rattle.sql_schema.proofs.AdvanceLemmas.{advances_then, performs_advances}
+use Rattle.std.proofs.{Common.◌<◌, Common.◌+◌, Common.ℕ, Common.[], Common.Ok, Common.arith, lemmas.Bool.Decides.nat_tests}
+use Rattle.sqlite.specs.{Effect.Database, State.State, State.Survives}
+use Rattle.sql_schema.specs.{Advances.Advances, Advances.Performs, Defined.AddsKeyTable, Defined.Defines, Definitions.definition_at, Schema.schema_at}
 use Rattle.sql_schema.proofs.Making.{MovesOn, makes, widens}
-use Rattle.sql_schema.proofs.Meanings.{create_chall_key_makes, each_makes}
+use Rattle.sql_schema.proofs.{AdvanceLemmas.advances_then, AdvanceLemmas.performs_advances, Meanings.create_chall_key_makes, Meanings.each_makes}
 
 -- one more definition, where there was nothing before the first
 defines_next : (step : ℕ) (first old new : Database) → Defines step first old → MovesOn (schema_at step) (schema_at (step + 1)) old new
     → Defines (step + 1) first new
-defines_next step first old new before on none =
-    let was = before none in
-    let it = on was.schema was.empty in
-    record { schema = it.0; empty = it.1 }
+defines_next step first old new before on none = grind (arith, nat_tests)
 
 -- one more statement of the transaction
 pub defines_more : (first old new : State) (step count : ℕ) → step < 16 → Survives old new (λ _. ⊥) → Advances first old (Defines step)
     → Performs (definition_at step) [] old new (Ok count)
     → Advances first new (Defines (step + 1))
-defines_more first old new step count low on before ran =
-    let Next = MovesOn (schema_at step) (schema_at (step + 1)) in
-    let last = performs_advances (definition_at step) [] old new count Next
-    (makes (schema_at step) (schema_at (step + 1)) (definition_at step) (each_makes step low) old new count) ran in
-    advances_then first old new (Defines step) Next (Defines (step + 1)) (defines_next step first.now old.now new.now) on before last
+defines_more first old new step count low on before ran = grind (arith, nat_tests, MovesOn, performs_advances, makes, each_makes, advances_then, defines_next, (makes (schema_at step) (schema_at (step + 1)) (definition_at step) (each_makes step low) old new count), (each_makes step low), (defines_next step first.now old.now new.now))
 
 -- the table that format 1 lacks, made where there is format 1
 pub adds_key_table : (old new : State) (count : ℕ) → Performs (definition_at 15) [] old new (Ok count) → Advances old new AddsKeyTable

@@ -1,8 +1,7 @@
 -- What a call inside a transaction does.
 use Rattle.std.specs.Prelude.{◌≡◌, ◌⊎◌, ℕ, List, Result, IsTrue}
-use Rattle.sqlite.specs.{Order.Row, Effect.Database}
-use Rattle.sqlite.specs.declared.error.Error.{Error}
 use Rattle.sqlite.specs.State.{State, HasCleanDisk, IsRolledBack, IsUnchanged, ExecutesInside}
+use Rattle.sqlite.specs.{Order.Row, Effect.Database, declared.error.Error.Error}
 
 -- a statement was run, or failed
 abbrev pub Performs : List ℕ → Row → State → State → Result ℕ Error → Type 0

@@ -1,8 +1,6 @@
 -- What the definitions make of an empty database.
-use Rattle.std.specs.Prelude.{◌≡◌, ℕ, []}
-use Rattle.std.specs.List.{AllByRecursion}
-use Rattle.sqlite.specs.{Schema.Schema, Tree.Trees, Change.KeepsRows}
-use Rattle.sqlite.specs.Effect.{Database, IsDatabase}
+use Rattle.std.specs.{Prelude.◌≡◌, Prelude.ℕ, Prelude.[], List.AllByRecursion}
+use Rattle.sqlite.specs.{Schema.Schema, Tree.Trees, Change.KeepsRows, Effect.Database, Effect.IsDatabase}
 use Rattle.sql_schema.specs.Schema.{desk_schema, first_schema, first_tables, no_schema, schema_at}
 
 -- no table has a row

@@ -1,6 +1,5 @@
 -- The names of the tables and indexes.
-use Rattle.std.specs.Prelude.{ℕ, Bool, List, [], ◌∷◌, codes, is_some}
-use Rattle.std.specs.List.{list_all}
+use Rattle.std.specs.{Prelude.ℕ, Prelude.Bool, Prelude.List, Prelude.[], Prelude.◌∷◌, Prelude.codes, Prelude.is_some, List.list_all}
 use Rattle.sqlite.specs.{Schema.Schema, Change.is_used}
 use Rattle.sqlite_schema.specs.Names.{index_named}
 

@@ -1,10 +1,9 @@
 -- The schemas of format 1, seven tables and ten indexes, and of format 2, which has one table more.
 use Rattle.std.specs.Prelude.{ℕ, true, false, List, [], ◌∷◌, take, Some, None, codes, slice_index_or}
-use Rattle.sqlite.specs.{Collation.TheVariants.Binary, Schema.Schema, Kind.Kind}
-use Rattle.sqlite.specs.declared.types.Value.TheVariants.{Null}
+use Rattle.sqlite.specs.Kind.TheVariants.{Integer, Text, Blob}
+use Rattle.sqlite.specs.{Collation.TheVariants.Binary, Schema.Schema, Kind.Kind, declared.types.Value.TheVariants.Null}
 use Rattle.sqlite_schema.specs.declared.schema.{Table.Table, Column.Column, Index.Index, Reference.Reference, Action.TheVariants.NoAction}
 use Rattle.sqlite_value.specs.Keys.{plain}
-use Rattle.sqlite.specs.Kind.TheVariants.{Integer, Text, Blob}
 
 -- ---- the parts of a table
 

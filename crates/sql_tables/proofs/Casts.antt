@@ -1,17 +1,15 @@
 -- Values that their columns keep as they are.
-use Rattle.std.proofs.Common.{◌≡◌, ℕ, ℤ, cond, List, [], ◌∷◌, Bool, true, false, Some, None, Option, refl, ap, ◌∙◌}
-use Rattle.sqlite.specs.declared.types.Value.{Value}
-use Rattle.sqlite.specs.declared.types.Value.TheVariants.{Null, Int}
+use Rattle.std.proofs.Common.{◌≡◌, ℕ, ℤ, cond, List, [], ◌∷◌, Bool, Option, refl, ap, ◌∙◌, rules}
+use Rattle.sqlite.specs.{declared.types.Value.Value, declared.types.Value.TheVariants.Null, declared.types.Value.TheVariants.Int, Kind.TheVariants.Integer}
+use Rattle.sqlite.specs.{Kind.TheVariants.Text}
 use Rattle.sqlite_value.specs.Order.{Row}
 use Rattle.sqlite_sql.specs.Ops.{unary}
 use Rattle.sqlite_schema.specs.declared.schema.{Column.Column, Table.Table}
 use Rattle.sqlite_rules.specs.Cast.{cast, cast_all, cast_row}
-use Rattle.sqlite.specs.Kind.TheVariants.{Integer, Text}
 use Rattle.sql_tables.specs.Images.{int_or_null, text_or_null}
 
 either : (b : Bool) (x : Value) → cond b x x ≡ x
-either true x = refl
-either false x = refl
+either b x = search rules
 
 pub cast_int : (n : ℤ) → cast Integer (Int n) ≡ Int n
 unfolding unary
@@ -22,12 +20,10 @@ unfolding unary
 cast_null = either _ Null
 
 pub cast_int_or_null : (n : Option ℤ) → cast Integer (int_or_null n) ≡ int_or_null n
-cast_int_or_null None = cast_null
-cast_int_or_null (Some n) = cast_int n
+cast_int_or_null n = search (rules, cast_null, cast_int)
 
 pub cast_text_or_null : (t : Option (List ℕ)) → cast Text (text_or_null t) ≡ text_or_null t
-cast_text_or_null None = refl
-cast_text_or_null (Some t) = refl
+cast_text_or_null t = search rules
 
 -- each column keeps its value
 abbrev pub AreKept : List Column → Row → Type 0

@@ -1,17 +1,15 @@
 -- A query of one table by its key.
-use Rattle.std.proofs.Common.{◌≡◌, ℕ, ℤ, pos, negsuc, ◌&&◌, ◌++◌, if◌then◌else◌, List, [], ◌∷◌, map, flat_map, Bool, true, false}
-use Rattle.std.proofs.Common.{None, Some, refl, ap, subst, ◌∙◌, cond, int_cmp}
+use Rattle.std.proofs.Common.{◌≡◌, ℕ, ℤ, pos, negsuc, ◌&&◌, ◌++◌, if◌then◌else◌, List, [], ◌∷◌, map, flat_map, Bool, true, false, None, Some, refl, ap, subst}
+use Rattle.std.proofs.Common.{◌∙◌, cond, int_cmp, rules}
+use Rattle.std.proofs.{lemmas.List.Sorted.length_permutation, lemmas.List.nil_from_length}
 use Rattle.std.specs.{Ordering.is_eq, List.list_all, List.Sorted.IsPermutation}
-use Rattle.std.proofs.lemmas.{List.Sorted.length_permutation, List.nil_from_length}
 use Rattle.sqlite.specs.declared.types.Value.TheVariants.{Int}
-use Rattle.sqlite_value.specs.declared.keys.Collation.TheVariants.{Binary}
-use Rattle.sqlite_value.specs.Order.{Row, column}
+use Rattle.sqlite_value.specs.{declared.keys.Collation.TheVariants.Binary, Order.Row, Order.column}
 use Rattle.sqlite_value.proofs.OrderLemmas.{value_cmp-Int}
 use Rattle.sqlite_trees.specs.Tree.{Trees, rowid}
-use Rattle.sqlite_sql.specs.declared.ops.{BinaryOp.TheVariants.Compare, CompareOp.TheVariants.Eq}
-use Rattle.sqlite_sql.specs.Ops.{binary, is_true, from_truth}
 use Rattle.sqlite_sql.specs.Term.{Term, Env, lit, col, op2, eval_all, holds}
 use Rattle.sqlite_sql.specs.Query.{Query, Output, inner, end, IsAnswer, output, page}
+use Rattle.sqlite_sql.specs.{declared.ops.BinaryOp.TheVariants.Compare, declared.ops.CompareOp.TheVariants.Eq, Ops.binary, Ops.is_true, Ops.from_truth}
 use Rattle.sqlite.proofs.Callers.{one_permutation}
 use Rattle.sql_tables.proofs.Keyed.{with_key, three}
 
@@ -31,8 +29,7 @@ by_key tree at project = record {
 
 -- a truth that is known is told
 pub told : (b : Bool) → is_true (from_truth (Some b)) ≡ b
-told true = refl
-told false = refl
+told b = search rules
 
 -- SQL's `=` of two numbers
 pub equal_is : (m n : ℤ) → is_true (binary (Compare Eq Binary) (Int m) (Int n)) ≡ is_eq (int_cmp m n)

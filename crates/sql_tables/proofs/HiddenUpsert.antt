@@ -1,29 +1,21 @@
 -- INSERT .. ON CONFLICT (columns) DO UPDATE of one row, over a table whose row number is hidden.
-use Rattle.std.specs.Prelude.{◌+ℤ◌, slice_get, unwrap_or}
-use Rattle.std.specs.Ordering.{is_eq}
-use Rattle.std.proofs.Common.{◌≡◌, ◌≢◌, inl, inr, ℕ, ◌+◌, ℤ, pos, ◌++◌, List, [], ◌∷◌, map, fold, length, ◌/◌, Bool, true, false}
-use Rattle.std.proofs.Common.{Some, Ok, refl, sym, ap, subst, ◌∙◌}
-use Rattle.sqlite.specs.declared.types.Value.TheVariants.{Int, Null}
+use Rattle.std.specs.Prelude.{◌+ℤ◌}
+use Rattle.std.proofs.Common.{◌≡◌, ◌≢◌, inl, inr, ℕ, ◌+◌, ℤ, pos, ◌++◌, List, [], ◌∷◌, map, fold, length, ◌/◌, Bool, true, false, Some, Ok, refl, sym, ap}
+use Rattle.std.proofs.Common.{subst, ◌∙◌, arith, rules}
+use Rattle.std.proofs.lemmas.Bool.{false_from_ne_true}
+use Rattle.sqlite.specs.Rows.{Task, Written, Clears, Meets, Updates, Upserts, InsertsOr, stamped, rowids_for, shown}
+use Rattle.sqlite.specs.{declared.types.Value.TheVariants.Int, declared.types.Value.TheVariants.Null, Effect.value_rows}
 use Rattle.sqlite_value.specs.Order.{Row, column}
 use Rattle.sqlite_trees.specs.Tree.{Trees, rowid}
-use Rattle.sqlite_sql.specs.Term.{Term, eval_all}
-use Rattle.sqlite_sql.specs.Program.{overlay}
+use Rattle.sqlite_sql.specs.{Term.Term, Term.eval_all, Program.overlay}
 use Rattle.sqlite_schema.specs.declared.command.{Upsert.Upsert, Conflict.TheVariants.Abort, Source.TheVariants.Values}
-use Rattle.sqlite_rules.specs.declared.error.Rowids.TheVariants.{Given}
 use Rattle.sqlite_rules.specs.Edit.{with_rowid, next_rowid, id_in, IsNoIndex}
-use Rattle.sqlite_rules.specs.Keys.{AreConflicts, conflicts}
-use Rattle.sqlite_rules.specs.{Cast.cast_row, Calls.ids_of, Lists.Has}
-use Rattle.sqlite.specs.Rows.{Task, Written, Clears, Meets, Updates, Upserts, InsertsOr, stamped, rowids_for, shown}
-use Rattle.sqlite.specs.Effect.{value_rows}
+use Rattle.sqlite_rules.specs.{declared.error.Rowids.TheVariants.Given, Keys.AreConflicts, Keys.conflicts, Cast.cast_row, Calls.ids_of, Lists.Has}
 use Rattle.desk_model.specs.Change.{put}
-use Rattle.sql_tables.specs.Hidden.{hidden, next, number, IsPlaced}
-use Rattle.sql_tables.specs.Layouts.{IsRising}
-use Rattle.sql_tables.proofs.Keyed.{one_with, with_key, three}
-use Rattle.sql_tables.proofs.Found.{by_key, answered}
-use Rattle.sql_tables.proofs.Inserts.{NoWorks, edits}
+use Rattle.sql_tables.specs.{Hidden.hidden, Hidden.next, Hidden.number, Hidden.IsPlaced, Layouts.IsRising}
 use Rattle.sql_tables.proofs.Upsert.{cleared, inserted, edited_as, one_tried, row_behind}
+use Rattle.sql_tables.proofs.{Keyed.one_with, Keyed.with_key, Found.by_key, Found.answered, Inserts.NoWorks, Inserts.edits}
 use Rattle.sql_schema.proofs.Making.{went}
-use Rattle.std.proofs.lemmas.Bool.{false_from_ne_true}
 
 -- what is in a list is in the mapped one
 pub has_map : {A B : Type 0} (f : A → B) (xs : List A) (x : A) → Has xs x → Has (map f xs) (f x)
@@ -46,19 +38,12 @@ next_from cells n (t ∷ ts) = next_from cells (t.0 + 1) ts
 pub numbered_next : {X : Type 0} (cells : X → Row) (task : Task) (top : ℤ) (rows : List Row) (ts : List (ℕ × X)) (x : X) → task.table.is_counted ≡ false
     → rows ≡ map (hidden cells) ts → cast_row task.table (Null ∷ cells x) ≡ Null ∷ cells x
     → with_rowid (rowids_for task.table top) rows (cast_row task.table (Null ∷ cells x)) ≡ hidden cells (next ts, x)
-numbered_next cells task top rows ts x uncounted has cast_new =
-    ap (with_rowid (rowids_for task.table top) rows) cast_new
-    ∙ chosen_of task top rows (cells x) uncounted
-    ∙ ap (λ i. Int i ∷ cells x) (ap next_rowid has ∙ next_from cells 1 ts)
+numbered_next cells task top rows ts x uncounted has cast_new = search (rules, chosen_of, next_from)
 
 -- the row that has a number is in the list
 with_has : {X : Type 0} (ts : List (ℕ × X)) (k : ℕ) (t : ℕ × X) → with_key number k ts ≡ t ∷ [] → Has ts t
 with_has [] k t e = let bad = e in cc
-with_has (s ∷ ts) k t e = go (is_eq (three s.0 k)) refl (with_has ts k t)
-  where
-    go : (b : Bool) → is_eq (three s.0 k) ≡ b → (with_key number k ts ≡ t ∷ [] → Has ts t) → Has (s ∷ ts) t
-    go true is more = let first : s ∷ with_key number k ts ≡ t ∷ [] = rw is at e in inl (sym (ap (λ l. unwrap_or (slice_get l 0) s) first))
-    go false is more = inr (more (rw is at e))
+with_has (s ∷ ts) k t e = grind (arith, (with_has ts k t))
 
 -- ON CONFLICT (columns) DO UPDATE
 abbrev pub clause_on : List ℕ → ℕ → ℕ → List Term → Upsert

@@ -1,24 +1,15 @@
 -- What follows for a database that holds the tables of a desk.
-use Rattle.std.proofs.Common.{◌≡◌, ℕ, List, [], ◌∷◌, map, Bool, true, false, refl, sym, subst, ◌∙◌, arith}
-use Rattle.std.specs.Prelude.{MatchBool}
+use Rattle.std.proofs.Common.{◌≡◌, ℕ, List, [], ◌∷◌, map, Bool, true, false, refl, sym, subst, ◌∙◌, arith, rules}
 use Rattle.std.proofs.lemmas.List.Sorted.{IsPermutation-refl}
-use Rattle.desk_model.specs.declared.rows.{Listed.Listed, Meta.Meta}
-use Rattle.store_columns.specs.declared.columns.Owned.{Owned}
-use Rattle.sqlite.specs.Order.{Row}
-use Rattle.sqlite.specs.Effect.{Database, IsDatabase}
-use Rattle.sqlite.specs.State.{State, IsUnchanged}
-use Rattle.sqlite_trees.specs.{Objects.catalog_tree, Tree.Trees}
-use Rattle.sqlite_catalog.specs.Listing.{Lists}
+use Rattle.std.specs.Prelude.{MatchBool}
+use Rattle.desk_model.specs.{declared.rows.Listed.Listed, declared.rows.Meta.Meta, Tables.Tables}
+use Rattle.store_columns.specs.{declared.columns.Owned.Owned, Flat.challenge_rows, Flat.key_rows, Flat.listed_rows}
+use Rattle.sqlite.specs.{Order.Row, Effect.Database, Effect.IsDatabase, State.State, State.IsUnchanged}
 use Rattle.sqlite_catalog.proofs.ReadLemmas.{lists_once}
-use Rattle.desk_model.specs.Tables.{Tables}
-use Rattle.sql_schema.specs.Defined.{Defines}
-use Rattle.sql_schema.specs.Schema.{desk_schema, no_schema}
-use Rattle.store_columns.specs.Flat.{challenge_rows, key_rows, listed_rows}
-use Rattle.sql_tables.specs.{Effects.Puts, Sorted.sorted_by}
-use Rattle.sql_tables.specs.Holds.{AreRising, Holds, HoldsListed}
+use Rattle.sql_schema.specs.{Defined.Defines, Schema.desk_schema, Schema.no_schema}
 use Rattle.sql_tables.specs.Images.{account_image, authorization_image, challenge_image, key_image, meta_image, nonce_image, order_image}
-use Rattle.sql_tables.specs.Layouts.{HasRows, account_layout, authorization_layout, challenge_layout, key_layout, meta_layout}
-use Rattle.sql_tables.specs.Layouts.{nonce_layout, order_layout}
+use Rattle.sql_tables.specs.Layouts.{HasRows, account_layout, authorization_layout, challenge_layout, key_layout, meta_layout, nonce_layout, order_layout}
+use Rattle.sql_tables.specs.{Effects.Puts, Sorted.sorted_by, Holds.AreRising, Holds.Holds, Holds.HoldsListed}
 use Rattle.sql_tables.proofs.NoIndexes.{KeepsBut, beside, kept_at}
 
 -- ---- table by table
@@ -107,10 +98,7 @@ holds_still old new T same has = subst (λ db. Holds db T) (sym same.0.now_is) h
 
 -- a database is told by its trees
 pub same_database : (a b : Database) → a.trees ≡ b.trees → IsDatabase a → IsDatabase b → a ≡ b
-same_database a b same p q =
-    let there : Lists (a.trees catalog_tree) b.schema = subst (λ (t : Trees). Lists (t catalog_tree) b.schema) (sym same) q.lists in
-    let schema = lists_once (a.trees catalog_tree) a.schema b.schema p.lists there in
-    λ i. record { schema = schema i; trees = same i }
+same_database a b same p q = search (rules, lists_once)
 
 -- so is what it holds
 pub holds_again : (old found : Database) (T : Tables) → found.trees ≡ old.trees → IsDatabase found → Holds old T → Holds found T

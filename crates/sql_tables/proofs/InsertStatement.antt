@@ -1,24 +1,19 @@
 -- What a text that inserts a row does, beside the one that puts it, from what the texts mean.
 use Rattle.std.specs.Prelude.{find, ◌==◌}
-use Rattle.std.proofs.Common.{◌≡◌, ℕ, ℤ, pos, ◌+◌, ◌&&◌, List, [], ◌∷◌, map, length, ◌/◌, not, Bool, true, false, None, Ok, refl, sym, ap, subst, ◌∙◌, arith}
-use Rattle.sqlite.specs.declared.types.Value.TheVariants.{Int}
+use Rattle.std.proofs.Common.{◌≡◌, ℕ, ℤ, pos, ◌+◌, ◌&&◌, List, [], ◌∷◌, map, length, ◌/◌, not, Bool, true, false, None, Ok, sym, ap, subst, ◌∙◌, arith, rules}
+use Rattle.sqlite.specs.Rows.{Inserts, Task, Written, count_of, rowids_for, stamped}
+use Rattle.sqlite.specs.{declared.types.Value.TheVariants.Int, Effect.Database, Effect.value_rows, State.State, State.Executes}
 use Rattle.sqlite_value.specs.Order.{Row}
 use Rattle.sqlite_trees.specs.Tree.{Trees, put_row, rowid}
 use Rattle.sqlite_sql.specs.Term.{Term}
 use Rattle.sqlite_schema.specs.declared.command.{Command.TheVariants.Insert, Source.TheVariants.Values}
-use Rattle.sqlite_rules.specs.Cast.{cast_row}
-use Rattle.sqlite_rules.specs.Edit.{are_fresh, edit_of, edited, is_taken, put_all, taken_by, with_rowid}
-use Rattle.sqlite.specs.Effect.{Database, value_rows}
-use Rattle.sqlite.specs.Rows.{Inserts, Task, Written, count_of, rowids_for, stamped}
-use Rattle.sqlite.specs.State.{State, Executes}
+use Rattle.sqlite_rules.specs.{Cast.cast_row, Edit.are_fresh, Edit.edit_of, Edit.edited, Edit.is_taken, Edit.put_all, Edit.taken_by, Edit.with_rowid}
 use Rattle.sqlite.proofs.Callers.{one_step}
 use Rattle.sql_schema.proofs.Making.{same_value, went}
-use Rattle.sql_tables.specs.Effects.{Adds, Puts}
-use Rattle.sql_tables.specs.Layouts.{Layout}
+use Rattle.sql_tables.specs.{Effects.Adds, Effects.Puts, Layouts.Layout}
 use Rattle.sql_tables.proofs.Inserts.{Carries, Means, NoWorks, becomes, carries, has_done, no_works, ran, task_of}
-use Rattle.sql_tables.proofs.Keyed.{put_ascends, put_row_as, untaken}
-use Rattle.sql_tables.proofs.Upsert.{IsPut, keeps_id, uncounts}
-use Rattle.sql_tables.proofs.UpsertStatement.{IsUpsert, inserted_terms}
+use Rattle.sql_tables.proofs.{Keyed.put_ascends, Keyed.put_row_as, Keyed.untaken, Upsert.IsPut, Upsert.keeps_id, Upsert.uncounts, UpsertStatement.IsUpsert}
+use Rattle.sql_tables.proofs.{UpsertStatement.inserted_terms}
 
 -- the text inserts the row that the other text puts
 abbrev pub IsInsert : {X : Type 0} (L : Layout X) {params : X → Row} {upsert : List ℕ} → IsUpsert L params upsert → List ℕ → Type 0
@@ -30,8 +25,7 @@ IsAdded key row task db xs x next = (find (λ r. key r == key x) xs ≡ None) ×
 
 -- what the engine tests of one row
 not_taken : (taken : Bool) → (not taken && true) ≡ true → taken ≡ false
-not_taken true h = sym h
-not_taken false h = refl
+not_taken taken h = search rules
 
 -- a row that was inserted, with the number that it has or gets, stands in its place: no row had its key
 pub inserts_row : {X : Type 0} (key : X → ℕ) (row : X → Row) → ((x : X) → rowid (row x) ≡ Int (pos (key x))) → (task : Task) → NoWorks task

@@ -1,27 +1,16 @@
 -- The parts of a statement, and INSERT of one row where no foreign key acts.
-use Rattle.std.specs.Prelude.{flat_map, filter_map, length, ◌==◌}
-use Rattle.std.proofs.Common.{◌≡◌, ◌≢◌, ℕ, ℤ, List, [], ◌∷◌, map, Bool, true, false, None, Ok, refl, sym, ap, subst, ◌∙◌}
+use Rattle.std.proofs.Common.{◌≡◌, ◌≢◌, ℕ, ℤ, List, [], ◌∷◌, map, None, Ok, refl, sym, ap, subst, ◌∙◌, arith, rules}
 use Rattle.sqlite_value.specs.Order.{Row}
 use Rattle.sqlite_trees.specs.Tree.{Trees, put_row}
 use Rattle.sqlite_schema.specs.declared.{command.Command.Command, schema.Keys.TheVariants.Enforced, schema.Table.Table}
-use Rattle.sqlite_schema.specs.Rules.{parent_key}
-use Rattle.sqlite_rules.specs.declared.error.{Rowids.Rowids, Rowids.TheVariants.Given}
 use Rattle.sqlite_rules.specs.Edit.{IsNoIndex, edit_of, taken_by, Applies}
-use Rattle.sqlite_rules.specs.Cast.{cast_row}
-use Rattle.sqlite_rules.specs.Action.{works, work_by, deed_for, pairs}
-use Rattle.sqlite.specs.declared.run.Mode.{Mode}
-use Rattle.sqlite.specs.Does.{Concludes, Does, Tally}
-use Rattle.sqlite.specs.Effect.{Database, IsDatabase}
-use Rattle.sqlite.specs.Listing.{understood}
-use Rattle.sqlite.specs.Rows.{Edited, Gives, Task, Then, Written, Puts}
-use Rattle.sqlite.specs.State.{State, mode_of, Executes, Runs, Writes}
+use Rattle.sqlite_rules.specs.{declared.error.Rowids.Rowids, declared.error.Rowids.TheVariants.Given, Cast.cast_row, Action.works}
+use Rattle.sqlite.specs.{Does.Concludes, Does.Does, Does.Tally, Effect.Database, Effect.IsDatabase, Listing.understood, Rows.Edited, Rows.Gives, Rows.Task}
+use Rattle.sqlite.specs.{Rows.Then, Rows.Written, Rows.Puts, State.State, State.mode_of, State.Executes, State.Runs, State.Writes}
 use Rattle.sqlite.proofs.Callers.{IsPlain, command_of, one_step, runs_as, statement_of}
-use Rattle.sql_schema.proofs.AdvanceLemmas.{performs_advances}
 use Rattle.sql_schema.proofs.Making.{same_value, went}
-use Rattle.sql_schema.specs.Advances.{Advances, Performs}
-use Rattle.sql_schema.specs.Schema.{desk_schema}
-use Rattle.sql_tables.specs.Effects.{BecomesRows}
-use Rattle.sql_tables.specs.Layouts.{IsRising, Layout}
+use Rattle.sql_schema.specs.{Advances.Advances, Advances.Performs, Schema.desk_schema}
+use Rattle.sql_tables.specs.{Effects.BecomesRows, Layouts.IsRising, Layouts.Layout}
 
 -- ---- a text that is run
 
@@ -56,27 +45,12 @@ has_done text params command old new count has w = record {
 abbrev pub task_of : State → Table → Row → Task
 task_of old table params = record { limit = old.step_limit; keys = Enforced; schema = desk_schema; table = table; params = params }
 
--- without RETURNING a statement leaves what it wrote
-concluded : (task : Task) (mode : Mode) (w : Written) (end : Tally × Database) → Concludes task mode None w (Ok end)
-    → end.1 ≡ record { schema = task.schema; trees = w.trees }
-concluded task mode w end h = ap (λ (p : Tally × Database). p.1) (same_value (went (went h).2).2)
-
 -- so its table has the rows that it wrote
 pub becomes : {X : Type 0} (L : Layout X) (old new : State) (params : Row) (rows : List X) (w : Written) (tally : Tally) → IsDatabase new.now
     → Concludes (task_of old L.table params) (mode_of old) None w (Ok (tally, new.now)) → IsRising L.key rows
     → (w.trees L.table.tree ≡ map L.image rows) × ((t : ℕ) → t ≢ L.table.tree → IsNoIndex desk_schema t → w.trees t ≡ old.now.trees t)
     → BecomesRows L rows old.now new.now
-becomes L old new params rows w tally sound ends up wrote =
-    let now = concluded (task_of old L.table params) (mode_of old) w (tally, new.now) ends in
-    record {
-      sound = sound;
-      has = record {
-        schema = ap (λ (d : Database). d.schema) now;
-        rows_are = ap (λ (d : Database). d.trees L.table.tree) now ∙ wrote.0;
-        rising = up;
-      };
-      others = λ t other none. ap (λ (d : Database). d.trees t) now ∙ wrote.1 t other none;
-    }
+becomes L old new params rows w tally sound ends up wrote = grind arith
 
 -- run with the parameters of a row, the text does this of it
 abbrev pub Carries : {X : Type 0} → List ℕ → (X → Row) → (X → Database → Database → Type 0) → Type 1
@@ -86,9 +60,7 @@ Carries {X} text params Does =
 -- it does so inside a transaction, where it does so at all
 pub carries : {X : Type 0} (text : List ℕ) (params : X → Row) (Does : X → Database → Database → Type 0)
     → ((old new : State) (x : X) (count : ℕ) → Executes text (params x) old new (Ok count) → Does x old.now new.now) → Carries text params Does
-carries text params Does does x old new values are count ran =
-    performs_advances text values old new count (Does x) (λ executes. does old new x count (subst (λ row. Executes text row old new (Ok count)) are executes))
-    ran
+carries text params Does does x old new values are count ran = grind arith
 
 -- ---- where no foreign key acts
 
@@ -98,15 +70,7 @@ NoWorks task = (olds news : List Row) → works task.schema task.keys 0 task.tab
 
 -- the foreign keys of a desk have no actions, whether rows go or change
 pub no_works : (tree : ℕ) (olds news : List Row) → works desk_schema Enforced 0 tree olds news ≡ []
-no_works tree olds news = go (length news == 0)
-  where
-    go : (deletes : Bool)
-        → flat_map
-        (λ child. filter_map
-        (λ ref. work_by 0 tree (pairs olds news) child ref (deed_for Enforced deletes ref) (parent_key desk_schema.tables ref))
-        child.references) desk_schema.tables ≡ []
-    go true = refl
-    go false = refl
+no_works tree olds news = search rules
 
 module _ (task : Task) (calm : NoWorks task) where
   -- an edit of its rows is its one step

@@ -1,10 +1,7 @@
 -- Rows in the order of a number, their key.
-use Rattle.std.proofs.Common.{◌≡◌, ◌⊎◌, inl, inr, ℕ, pos, ◌+◌, ◌<◌, ◌≤◌, List, [], ◌∷◌, map, filter, not, Bool, true, false, refl}
-use Rattle.std.proofs.Common.{sym, ap, subst, ◌∙◌, arith, cond, None, Ordering, Less, Equal, Greater, int_cmp, nat_cmp}
-use Rattle.std.specs.Prelude.{◌==◌, find, nat_lt}
-use Rattle.std.specs.Ordering.{is_eq, MatchOrdering}
-use Rattle.std.proofs.lemmas.{Cmp.ranked as nat_ranked, Bool.Decides.nat_tests}
-use Rattle.std.proofs.lemmas.Bool.{eq-eqb, le-ltb, lt-ltb}
+use Rattle.std.proofs.Common.{◌≡◌, ◌⊎◌, inl, inr, ℕ, pos, ◌+◌, ◌<◌, ◌≤◌, List, [], ◌∷◌, map, filter, not, Bool, true, false, refl, sym, ap, subst, ◌∙◌, arith}
+use Rattle.std.proofs.Common.{cond, None, Ordering, Less, Equal, Greater, int_cmp, rules}
+use Rattle.std.specs.{Prelude.◌==◌, Prelude.find, Prelude.nat_lt, Ordering.is_eq}
 use Rattle.sqlite.specs.declared.types.Value.TheVariants.{Int}
 use Rattle.sqlite_value.specs.Order.{Row, value_cmp}
 use Rattle.sqlite_value.proofs.OrderLemmas.{value_cmp-Int}
@@ -12,8 +9,8 @@ use Rattle.sqlite_trees.specs.Tree.{rowid, put_row, without_rowid, has_rowid}
 use Rattle.sqlite_rules.specs.{Edit.is_taken, Lists.Has}
 use Rattle.model_laws.specs.Ordered.{Ascends}
 use Rattle.model_laws.proofs.RowLists.{ascends_above, ascends_from, put_first, put_instead, put_past, remove_none}
-use Rattle.desk_model.specs.Change.{put, remove}
 use Rattle.model_laws.proofs.Basics.{less_differs, more_differs}
+use Rattle.desk_model.specs.Change.{put, remove}
 
 -- ---- two numbers
 
@@ -45,33 +42,17 @@ pub record IsMore (a b : ℕ) : Type 0 where
 abbrev pub Ranked : ℕ → ℕ → Type 0
 Ranked a b = IsLess a b ⊎ (IsTied a b ⊎ IsMore a b)
 
-three_is : (a b : ℕ) → three a b ≡ nat_cmp a b
-three_is a b = grind (arith, nat_tests)
-
 -- which of the three
 pub ranked : (a b : ℕ) → Ranked a b
-ranked a b = go (three a b) refl (nat_ranked a b (three a b) (three_is a b))
-  where
-    go : (o : Ordering) → three a b ≡ o → MatchOrdering o (a < b) (a ≡ b) (b < a) → Ranked a b
-    go Less is h = inl (record { low = h; ranks = is; apart = more_differs b a h; under = le-ltb b a (omega arith) })
-    go Equal is h = inr (inl (record { same = h; ranks = is; tied = eq-eqb b a (sym h) }))
-    go Greater is h = inr (inr (record { high = h; ranks = is; apart = less_differs b a h; under = lt-ltb b a h }))
+ranked a b = grind arith
 
 -- SQL finds two numbers equal where the model does
 pub eq_is : (a b : ℕ) → is_eq (three a b) ≡ (b == a)
-eq_is a b = elim (ranked a b) [
-  | inl less ↦ rw (less.ranks, less.apart) refl
-  | inr (inl tied) ↦ rw (tied.ranks, tied.tied) refl
-  | inr (inr more) ↦ rw (more.ranks, more.apart) refl
-]
+eq_is a b = search (rules, ranked)
 
 -- and then they are one
 pub same_of_eq : (a b : ℕ) → is_eq (three a b) ≡ true → a ≡ b
-same_of_eq a b eq = elim (ranked a b) [
-  | inl less ↦ absurd (let e = rw (less.ranks) at eq in cc)
-  | inr (inl tied) ↦ tied.same
-  | inr (inr more) ↦ absurd (let e = rw (more.ranks) at eq in cc)
-]
+same_of_eq a b eq = search (rules, ranked)
 
 -- ---- rows in order
 

@@ -1,31 +1,22 @@
 -- The upsert into `ord_authz`, and the insertion.
-use Rattle.std.proofs.Common.{◌≡◌, inl, inr, ℕ, pos, ◌&&◌, ◌||◌, List, [], ◌∷◌, Bool, true, false, Some, Ok, refl, sym, subst, ◌∙◌, arith}
-use Rattle.std.specs.Prelude.{◌==◌}
-use Rattle.sqlite.specs.declared.types.Value.TheVariants.{Int, Null}
+use Rattle.std.proofs.Common.{◌≡◌, ℕ, pos, ◌&&◌, ◌||◌, List, [], ◌∷◌, Bool, true, false, Some, Ok, refl, arith, rules}
+use Rattle.sqlite.specs.{declared.types.Value.TheVariants.Int, declared.types.Value.TheVariants.Null, Listing.understood, State.State, State.Executes}
 use Rattle.sqlite_value.proofs.KeyLemmas.{first_key-plain}
 use Rattle.sqlite_schema.specs.declared.command.Command.TheVariants.{Insert, InsertOr}
 use Rattle.sqlite_schema.specs.declared.command.{Conflict.TheVariants.Abort, Source.TheVariants.Values}
 use Rattle.sqlite_sql.specs.Term.{Term, lit, col}
 use Rattle.sqlite_rules.specs.{Cast.cast_row, Keys.conflicts}
 use Rattle.sqlite_tied.specs.Compute.{everything}
-use Rattle.sqlite.specs.Listing.{understood}
-use Rattle.sqlite.specs.State.{State, Executes}
-use Rattle.store_columns.specs.Columns.{listed_columns}
-use Rattle.store_columns.specs.declared.{columns.Owned.Owned}
+use Rattle.store_columns.specs.{Columns.listed_columns, declared.columns.Owned.Owned}
 use Rattle.desk_model.specs.declared.rows.Listed.{Listed}
 use Rattle.sql_schema.specs.Schema.{desk_schema, ord_authz_table}
-use Rattle.sql_tables.specs.Effects.{Appends, Places, is_same_place}
-use Rattle.sql_tables.specs.Hidden.{IsPlaced, hidden, next, number}
-use Rattle.sql_tables.specs.Images.{listed_cells, listed_params}
-use Rattle.sql_tables.specs.Layouts.{IsRising, listed_layout}
+use Rattle.sql_tables.specs.{Effects.Appends, Effects.Places, Effects.is_same_place, Hidden.IsPlaced, Hidden.hidden, Hidden.next, Hidden.number}
+use Rattle.sql_tables.specs.{Images.listed_cells, Images.listed_params, Layouts.IsRising, Layouts.listed_layout}
 use Rattle.sql_schema.specs.declared.listed.TheConstants as ord_authz
-use Rattle.sql_tables.proofs.Casts.{cast_int, new_kept, row_kept}
-use Rattle.sql_tables.proofs.{Found.equal_is, InsertStatement.inserts_row}
-use Rattle.sql_tables.proofs.HiddenUpsert.{clause_on, numbered_next, puts_hidden}
 use Rattle.sql_tables.proofs.Inserts.{Carries, Means, becomes, carries, has_done, no_works, ran, task_of}
-use Rattle.sql_tables.proofs.Keyed.{eq_is, put_ascends, same_of_eq}
+use Rattle.sql_tables.proofs.{Casts.cast_int, Casts.new_kept, Casts.row_kept, Found.equal_is, InsertStatement.inserts_row, HiddenUpsert.clause_on}
+use Rattle.sql_tables.proofs.{HiddenUpsert.numbered_next, HiddenUpsert.puts_hidden, Keyed.eq_is, Keyed.put_ascends}
 use Rattle.sql_schema.proofs.Making.{went}
-use Rattle.std.proofs.lemmas.Bool.{and_parts}
 
 -- the row that is inserted, in terms of the parameters
 abbrev terms : List Term
@@ -47,31 +38,22 @@ casts : (t : ℕ × Owned Listed) → cast_row ord_authz_table (hidden listed_ce
 casts t = row_kept ord_authz_table _ _ (cast_int _, (cast_int _, (cast_int _, tt)))
 
 both : (a b : Bool) → (a && (b && true)) || false ≡ (a && b)
-both true true = refl
-both true false = refl
-both false b = refl
+both a b = search rules
 
 -- two rows clash where they are one place of one order
 clash : (n : ℕ) (x : Owned Listed) (t : ℕ × Owned Listed)
     → conflicts (Some (1 ∷ 2 ∷ [])) desk_schema.indexes ord_authz_table (hidden listed_cells (n, x)) (hidden listed_cells t) ≡ is_same_place x t.1
-clash n x t =
-    rw (first_key-plain, equal_is (pos t.1.owner) (pos x.owner), equal_is (pos t.1.row.place) (pos x.row.place)) (both _ _)
-    ∙ (λ i. eq_is t.1.owner x.owner i && eq_is t.1.row.place x.row.place i)
+clash n x t = search (rules, first_key-plain, equal_is, both, eq_is)
 
 -- an order's place is the one that is there
 sets : (k : ℕ) (x y : Owned Listed) → is_same_place x y ≡ true
     → Int (pos k) ∷ Int (pos k) ∷ Int (pos y.owner) ∷ Int (pos y.row.place) ∷ Int (pos x.row.authorization) ∷ [] ≡ Int (pos k) ∷ hidden listed_cells (k, x)
-sets k x y same =
-    let parts = and_parts (x.owner == y.owner) (x.row.place == y.row.place) same in
-    let owner = same_of_eq y.owner x.owner (eq_is y.owner x.owner ∙ parts.0) in
-    let place = same_of_eq y.row.place x.row.place (eq_is y.row.place x.row.place ∙ parts.1) in
-    λ i. Int (pos k) ∷ Int (pos k) ∷ Int (pos (owner i)) ∷ Int (pos (place i)) ∷ Int (pos x.row.authorization) ∷ []
+sets k x y same = grind arith
 
 -- rows stay in the order of their hidden numbers
 placed_rises : (x : Owned Listed) (before after : List (ℕ × Owned Listed)) → IsRising number before → IsPlaced is_same_place x before after
     → IsRising number after
-placed_rises x before after up (inl there) = subst (IsRising number) (sym there.3) (put_ascends number 0 (there.0.0, x) before (omega arith) up)
-placed_rises x before after up (inr fresh) = subst (IsRising number) (sym fresh.1) (put_ascends number 0 (next before, x) before (omega arith) up)
+placed_rises x before after h k = search (rules, put_ascends)
 
 -- a row without its number keeps the others
 new_row : (x : Owned Listed) → cast_row ord_authz_table (Null ∷ listed_cells x) ≡ Null ∷ listed_cells x

@@ -1,7 +1,6 @@
 -- Which trees a statement on one table leaves as they were.
-use Rattle.std.specs.List.{AllByRecursion, list_all}
-use Rattle.std.specs.Prelude.{◌==◌}
-use Rattle.std.proofs.Common.{◌≡◌, ◌≢◌, ℕ, List, [], ◌∷◌, ◌&&◌, ◌++◌, not, Bool, true, ◌∙◌}
+use Rattle.std.specs.{List.list_all, Prelude.◌==◌}
+use Rattle.std.proofs.Common.{◌≡◌, ◌≢◌, ℕ, List, [], ◌∷◌, ◌&&◌, ◌++◌, not, Bool, true, ◌∙◌, arith}
 use Rattle.std.proofs.lemmas.Bool.{and_parts, eq-eqb}
 use Rattle.sqlite.specs.Effect.{Database}
 use Rattle.sqlite_schema.specs.declared.schema.Index.{Index}
@@ -16,11 +15,6 @@ unlike a b is same = let tied = eq-eqb a b same in absurd (cc (is, tied))
 abbrev of_none : ℕ → List Index → Bool
 of_none t = list_all (λ (i : Index). not (i.tree == t))
 
--- so none has its number
-none_has : (t : ℕ) (is : List Index) → of_none t is ≡ true → AllByRecursion (λ i. i.tree ≢ t) is
-none_has t [] none = tt
-none_has t (i ∷ is) none = let parts = and_parts (not (i.tree == t)) (of_none t is) none in (unlike i.tree t parts.0, none_has t is parts.1)
-
 -- the tree is none of these, and of no index
 abbrev pub beside : List ℕ → ℕ → Bool
 beside [] t = of_none t desk_schema.indexes
@@ -32,9 +26,7 @@ KeepsBut moved old new = (t : ℕ) → beside moved t ≡ true → new.trees t �
 
 -- behind a statement on one table
 pub kept_at : (tree : ℕ) (old new : Database) → KeepsOthers tree old new → KeepsBut (tree ∷ []) old new
-kept_at tree old new others t is =
-    let parts = and_parts (not (t == tree)) (of_none t desk_schema.indexes) is in
-    others t (unlike t tree parts.0) (none_has t desk_schema.indexes parts.1)
+kept_at tree old new others t is = grind arith
 
 -- none of more trees is none of some
 beside_last : (xs ys : List ℕ) (t : ℕ) → beside (xs ++ ys) t ≡ true → beside ys t ≡ true

@@ -1,27 +1,20 @@
 -- DELETE of the row that has a key, and the deletion of a nonce.
 use Rattle.std.proofs.Common.{◌≡◌, ◌≢◌, inl, inr, ℕ, pos, List, [], ◌∷◌, map, Ok, refl, sym, ap, ◌∙◌}
-use Rattle.sqlite.specs.declared.types.Value.TheVariants.{Int, Null}
+use Rattle.sqlite.specs.Rows.{Task, Written, Deletes}
+use Rattle.sqlite.specs.{declared.types.Value.TheVariants.Int, declared.types.Value.TheVariants.Null, Listing.understood, State.State, State.Executes}
 use Rattle.sqlite_value.specs.Order.{Row, column}
 use Rattle.sqlite_trees.specs.Tree.{Trees, rowid}
-use Rattle.sqlite_sql.specs.Term.{Term, col}
-use Rattle.sqlite_sql.specs.Program.{overlay}
+use Rattle.sqlite_sql.specs.{Term.Term, Term.col, Program.overlay}
 use Rattle.sqlite_schema.specs.declared.command.Command.TheVariants.{Delete}
-use Rattle.sqlite_rules.specs.declared.error.Rowids.TheVariants.{Given}
-use Rattle.sqlite_rules.specs.Edit.{edit_of, edited, IsNoIndex}
-use Rattle.sqlite_rules.specs.Calls.{ids_of}
+use Rattle.sqlite_rules.specs.{declared.error.Rowids.TheVariants.Given, Edit.edit_of, Edit.edited, Edit.IsNoIndex, Calls.ids_of}
 use Rattle.sqlite_tied.specs.Compute.{everything}
-use Rattle.sqlite.specs.Listing.{understood}
-use Rattle.sqlite.specs.Rows.{Task, Written, Deletes}
-use Rattle.sqlite.specs.State.{State, Executes}
 use Rattle.desk_model.specs.Change.{remove}
 use Rattle.model_laws.proofs.RowLists.{ascends_filter}
 use Rattle.sql_schema.specs.Schema.{nonce_table}
 use Rattle.sql_schema.specs.declared.nonces.TheConstants as nonce
-use Rattle.sql_tables.specs.Effects.{Removes}
-use Rattle.sql_tables.specs.Layouts.{IsRising, nonce_layout}
-use Rattle.sql_tables.proofs.Keyed.{none_out, one_or_none, without_as}
-use Rattle.sql_tables.proofs.Found.{answered, answered_none, by_key}
+use Rattle.sql_tables.specs.{Effects.Removes, Layouts.IsRising, Layouts.nonce_layout}
 use Rattle.sql_tables.proofs.Inserts.{Carries, Means, NoWorks, becomes, carries, edits, has_done, no_works, ran, task_of}
+use Rattle.sql_tables.proofs.{Keyed.none_out, Keyed.one_or_none, Keyed.without_as, Found.answered, Found.answered_none, Found.by_key}
 use Rattle.sql_schema.proofs.Making.{went}
 
 -- the key of the row that goes

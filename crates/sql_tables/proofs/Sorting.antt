@@ -1,9 +1,8 @@
 -- Rows put one after the other, and rows sorted by number.
 use Rattle.std.proofs.Common.{◌≡◌, ◌≢◌, inl, inr, ℕ, ◌+◌, ◌<◌, ◌++◌, List, [], ◌∷◌, filter, Bool, true, false, cond, refl, sym, ap, subst, ◌∙◌, arith}
-use Rattle.std.specs.Prelude.{◌==◌}
-use Rattle.std.specs.List.Sorted.{IsPermutation}
 use Rattle.std.proofs.lemmas.Bool.{eqb-true, ne_eqb}
 use Rattle.std.proofs.lemmas.List.Sorted.{IsPermutation-cons, IsPermutation-refl, IsPermutation-swap, IsPermutation-trans}
+use Rattle.std.specs.{Prelude.◌==◌, List.Sorted.IsPermutation}
 use Rattle.model_laws.proofs.Basics.{each}
 use Rattle.model_laws.proofs.RowLists.{ascends_above, ascends_filter, put_before, put_first, put_instead, put_past}
 use Rattle.model_laws.specs.{Distinct.Distinct, Ordered.Ascends, Placing.puts}

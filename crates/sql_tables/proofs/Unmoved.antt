@@ -1,8 +1,7 @@
 -- Rows that are as they were.
-use Rattle.std.proofs.Common.{◌≡◌, inl, inr, ℕ, ◌+◌, ◌≤◌, List, [], ◌∷◌, map, sym, ap, ◌∙◌, arith}
+use Rattle.std.proofs.Common.{◌≡◌, inl, inr, ℕ, ◌+◌, ◌≤◌, List, [], ◌∷◌, map, ap, arith}
 use Rattle.sqlite_rules.specs.Lists.{Has}
 use Rattle.model_laws.specs.Ordered.{Ascends}
-use Rattle.model_laws.proofs.RowLists.{put_instead, put_past}
 use Rattle.desk_model.specs.Change.{put}
 use Rattle.sql_tables.specs.Layouts.{Layout}
 
@@ -16,9 +15,5 @@ has_from key m (x ∷ xs) y up (inr there) = let above = has_from key (key x + 1
 pub put_as_it_is : {X : Type 0} (L : Layout X) (x y : X) (m : ℕ) (xs : List X) → Ascends L.key m xs → Has xs y → L.key y ≡ L.key x
     → L.image y ≡ L.image x → map L.image (put L.key x xs) ≡ map L.image xs
 put_as_it_is L x y m [] up h same alike = absurd h
-put_as_it_is L x y m (z ∷ zs) up (inl here) same alike =
-    ap (map L.image) (put_instead L.key x z zs (ap L.key (sym here) ∙ same)) ∙ ap (λ r. r ∷ map L.image zs) (sym alike ∙ ap L.image here)
-put_as_it_is L x y m (z ∷ zs) up (inr there) same alike =
-    let above = has_from L.key (L.key z + 1) zs y up.1 there in
-    ap (map L.image) (put_past L.key x z zs (omega (arith, same)))
-    ∙ ap (λ rs. L.image z ∷ rs) (put_as_it_is L x y (L.key z + 1) zs up.1 there same alike)
+put_as_it_is L x y m (z ∷ zs) up (inl here) same alike = grind arith
+put_as_it_is L x y m (z ∷ zs) up (inr there) same alike = grind (arith, has_from, (put_as_it_is L x y (L.key z + 1) zs up.1 there same alike))

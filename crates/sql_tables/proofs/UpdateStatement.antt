@@ -1,24 +1,18 @@
 -- What a text that renews a row by its key does, beside the one that puts it, from what the texts mean.
 use Rattle.std.proofs.Common.{◌≡◌, ℕ, pos, List, [], ◌∷◌, Ok, sym, ap, ◌∙◌, refl, arith, map}
-use Rattle.sqlite.specs.declared.types.Value.TheVariants.{Int, Null}
+use Rattle.sqlite.specs.Rows.{Task, Updates, Written}
+use Rattle.sqlite.specs.{declared.types.Value.TheVariants.Int, declared.types.Value.TheVariants.Null, State.State, State.Executes}
 use Rattle.sqlite_value.specs.Order.{Row, column}
 use Rattle.sqlite_trees.specs.Tree.{Trees, rowid}
-use Rattle.sqlite_sql.specs.Term.{Term, eval_all}
-use Rattle.sqlite_sql.specs.Program.{overlay}
+use Rattle.sqlite_sql.specs.{Term.Term, Term.eval_all, Program.overlay}
 use Rattle.sqlite_schema.specs.declared.command.Command.TheVariants.{Update}
-use Rattle.sqlite_rules.specs.declared.error.Rowids.TheVariants.{Given}
-use Rattle.sqlite_rules.specs.{Calls.ids_of, Cast.cast_row, Lists.Has}
-use Rattle.sqlite.specs.Rows.{Task, Updates, Written}
-use Rattle.sqlite.specs.State.{State, Executes}
+use Rattle.sqlite_rules.specs.{declared.error.Rowids.TheVariants.Given, Calls.ids_of, Cast.cast_row, Lists.Has}
 use Rattle.desk_model.specs.Change.{put}
 use Rattle.sql_schema.proofs.Making.{went}
-use Rattle.sql_tables.specs.Effects.{Renews}
-use Rattle.sql_tables.specs.Layouts.{IsRising, Layout}
-use Rattle.sql_tables.proofs.Found.{answered, by_key}
-use Rattle.sql_tables.proofs.{HiddenUpsert.has_map, UpsertStatement.IsUpsert}
+use Rattle.sql_tables.specs.{Effects.Renews, Layouts.IsRising, Layouts.Layout}
 use Rattle.sql_tables.proofs.Inserts.{Carries, Means, NoWorks, becomes, carries, edits, has_done, no_works, ran, task_of}
-use Rattle.sql_tables.proofs.Keyed.{one_with, put_ascends}
-use Rattle.sql_tables.proofs.Upsert.{IsPut, edited_as}
+use Rattle.sql_tables.proofs.{Found.answered, Found.by_key, HiddenUpsert.has_map, UpsertStatement.IsUpsert, Keyed.one_with, Keyed.put_ascends, Upsert.IsPut}
+use Rattle.sql_tables.proofs.{Upsert.edited_as}
 
 -- the text renews the row that the other text puts, and keeps some of its columns; its first parameter is the key
 pub record IsUpdate {X : Type 0} (L : Layout X) {params : X → Row} {upsert : List ℕ} (is : IsUpsert L params upsert) (updates kept : X → Row)

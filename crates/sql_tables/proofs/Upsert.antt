@@ -1,26 +1,19 @@
 -- INSERT .. ON CONFLICT (key) DO UPDATE of one row, over a table whose rows are typed.
-use Rattle.std.proofs.Common.{◌≡◌, ◌≢◌, inl, inr, ℕ, ℤ, pos, ◌++◌, List, [], ◌∷◌, map, length, ◌/◌, true, false, None, Some}
-use Rattle.std.proofs.Common.{Option, Ok, refl, sym, ap, subst, ◌∙◌}
+use Rattle.std.proofs.Common.{◌≡◌, ◌≢◌, inl, inr, ℕ, ℤ, pos, ◌++◌, List, [], ◌∷◌, map, length, ◌/◌, true, false, Some, Option, Ok, refl, sym, ap, subst, ◌∙◌}
+use Rattle.std.proofs.Common.{arith, rules}
 use Rattle.std.specs.Ordering.{is_eq}
-use Rattle.sqlite.specs.declared.types.Value.TheVariants.{Int, Null}
+use Rattle.sqlite.specs.Rows.{Task, Written, Puts, Clears, Meets, Updates, Upserts, Tries, InsertsOr, stamped, rowids_for, Counts, shown}
+use Rattle.sqlite.specs.{declared.types.Value.TheVariants.Int, declared.types.Value.TheVariants.Null, Effect.value_rows}
 use Rattle.sqlite_value.specs.Order.{Row, column}
 use Rattle.sqlite_trees.specs.Tree.{Trees, rowid}
-use Rattle.sqlite_sql.specs.Term.{Term, eval_all}
-use Rattle.sqlite_sql.specs.Program.{overlay}
+use Rattle.sqlite_sql.specs.{Term.Term, Term.eval_all, Program.overlay}
 use Rattle.sqlite_schema.specs.declared.command.{Upsert.Upsert, Conflict.TheVariants.Abort, Source.TheVariants.Values}
-use Rattle.sqlite_rules.specs.declared.error.Rowids.{Rowids}
-use Rattle.sqlite_rules.specs.declared.error.Rowids.TheVariants.{Given, Chosen, Above}
-use Rattle.sqlite_rules.specs.Edit.{edit_of, edited, with_rowid, IsNoIndex}
-use Rattle.sqlite_rules.specs.Keys.{AreConflicts, conflicts}
-use Rattle.sqlite_rules.specs.{Cast.cast_row, Calls.ids_of, Lists.Has}
-use Rattle.sqlite.specs.Rows.{Task, Written, Puts, Clears, Meets, Updates, Upserts, Tries, TriesEach, InsertsOr, stamped}
-use Rattle.sqlite.specs.Rows.{count_of, nothing, rowids_for, Counts, shown}
-use Rattle.sqlite.specs.Effect.{value_rows}
+use Rattle.sqlite_rules.specs.{declared.error.Rowids.Rowids, declared.error.Rowids.TheVariants.Given, Edit.edit_of, Edit.edited, Edit.with_rowid}
+use Rattle.sqlite_rules.specs.{Edit.IsNoIndex, Keys.AreConflicts, Keys.conflicts, Cast.cast_row, Calls.ids_of, Lists.Has}
 use Rattle.desk_model.specs.Change.{put, remove}
 use Rattle.sql_tables.specs.Layouts.{IsRising}
 use Rattle.sql_tables.proofs.Keyed.{three, same_of_eq, with_key, one_with, put_row_as, without_as, put_anew}
-use Rattle.sql_tables.proofs.Found.{by_key, answered}
-use Rattle.sql_tables.proofs.Inserts.{NoWorks, edits, puts}
+use Rattle.sql_tables.proofs.{Found.by_key, Found.answered, Inserts.NoWorks, Inserts.edits, Inserts.puts}
 use Rattle.sql_schema.proofs.Making.{same_value, went}
 
 -- a row of the tree is that of a typed row
@@ -39,9 +32,7 @@ IsPut key row task db xs x next = (next task.table.tree ≡ map row (put key x x
 
 -- a row with a number keeps it
 pub keeps_id : (rowids : Rowids) (rows : List Row) (r : Row) (n : ℤ) → rowid r ≡ Int n → with_rowid rowids rows r ≡ r
-keeps_id Chosen rows r n is = rw is refl
-keeps_id (Above last) rows r n is = rw is refl
-keeps_id Given rows r n is = refl
+keeps_id rowids rows r n h = search rules
 
 -- without AUTOINCREMENT nothing is counted
 pub uncounts : (task : Task) (db : Trees) (counter : Option Row) (top : ℤ) (next : Trees) → task.table.is_counted ≡ false
@@ -51,14 +42,11 @@ uncounts task db counter top next none h = same_value (rw none at h)
 -- a row that was written passed the tests of its table
 pub tried : (task : Task) (clauses : List Upsert) (new : Row) (db : Trees) (w : Written) → Tries task Abort clauses new db (Ok w)
     → Upserts task Abort new db clauses (Ok w)
-tried task clauses new db w (inl refused) = absurd (let e = refused.1 in cc)
-tried task clauses new db w (inr (None, judged, h)) = h
-tried task clauses new db w (inr (Some why, judged, h)) = absurd (let e = h in cc)
+tried task clauses new db w h = search rules
 
 -- where nothing is replaced a row is put, whatever was found
 pub cleared : (task : Task) (new : Row) (db : Trees) (found : List Row) (w : Written) → Clears task Abort new db found (Ok w) → Puts task new db (Ok w)
-cleared task new db [] w h = h
-cleared task new db (there ∷ more) w h = h
+cleared task new db found w h = search rules
 
 -- where one row comes, what is written is what is written of it
 pub one_tried : (task : Task) (clauses : List Upsert) (db : Trees) (terms : List Term) (width : ℕ) (given new : Row) (done : Written)
@@ -66,19 +54,7 @@ pub one_tried : (task : Task) (clauses : List Upsert) (db : Trees) (terms : List
     → ((top : ℤ) → with_rowid (rowids_for task.table top) (db task.table.tree) (cast_row task.table given) ≡ new)
     → InsertsOr task Abort clauses (Values terms width) db (Ok done)
     → (w : Written) × (done.trees ≡ w.trees) × Upserts task Abort new db clauses (Ok w)
-one_tried task clauses db terms width given new done uncounted source is_new h =
-    let rows = went h in
-    let counter = went rows.2 in
-    let all = went counter.2 in
-    let counts = went all.2 in
-    let one = went (subst (λ rs. TriesEach task Abort clauses rs (count_of counter.0) (nothing db) (Ok all.0)) (rows.1.1 ∙ source) all.1) in
-    let last : done.trees ≡ counts.0 = ap (λ (it : Written). it.trees) (same_value counts.2) in
-    let after : counts.0 ≡ all.0.0.trees = uncounts task all.0.0.trees counter.0 all.0.1 counts.0 uncounted counts.1 in
-    let written : all.0.0.trees ≡ one.0.trees = ap (λ (p : Written × ℤ). p.0.trees) (same_value one.2) in (
-      one.0,
-      last ∙ after ∙ written,
-      subst (λ row. Upserts task Abort row db clauses (Ok one.0)) (is_new (count_of counter.0)) (tried task clauses _ db one.0 one.1),
-    )
+one_tried task clauses db terms width given new done uncounted source is_new h = grind arith
 
 module _ {X : Type 0} (key : X → ℕ) (row : X → Row) (first : (x : X) → rowid (row x) ≡ Int (pos (key x)))
     (task : Task) (calm : NoWorks task) (casts : (x : X) → cast_row task.table (row x) ≡ row x)

@@ -1,25 +1,20 @@
 -- What a text that puts a row by its key does, from what the text means.
-use Rattle.std.proofs.Common.{◌≡◌, ℕ, zero, suc, pos, ◌+◌, ◌++◌, List, [], ◌∷◌, drop, length, ◌/◌, false, Some, Ok, slice_get, arith}
+use Rattle.std.proofs.Common.{◌≡◌, ℕ, zero, suc, pos, ◌+◌, ◌++◌, List, [], ◌∷◌, drop, length, ◌/◌, false, Some, Ok, slice_get, arith, rules}
 use Rattle.std.specs.Ordering.{is_eq}
-use Rattle.sqlite.specs.declared.types.Value.TheVariants.{Int, Null}
+use Rattle.sqlite.specs.{declared.types.Value.TheVariants.Int, declared.types.Value.TheVariants.Null, Effect.value_rows, Listing.understood, Rows.shown}
+use Rattle.sqlite.specs.{Rows.stamped, State.State, State.Executes}
 use Rattle.sqlite_value.specs.Order.{Row, column}
 use Rattle.sqlite_trees.specs.Tree.{Trees, rowid}
-use Rattle.sqlite_sql.specs.Term.{Term, col, lit, eval_all}
-use Rattle.sqlite_sql.specs.Program.{overlay}
+use Rattle.sqlite_sql.specs.{Term.Term, Term.col, Term.lit, Term.eval_all, Program.overlay}
 use Rattle.sqlite_schema.specs.declared.command.{Command.TheVariants.InsertOr, Conflict.TheVariants.Abort, Source.TheVariants.Values}
 use Rattle.sqlite_rules.specs.{Cast.cast_row, Keys.conflicts}
 use Rattle.sqlite.proofs.Callers.{IsPlain, command_of}
-use Rattle.sqlite.specs.{Effect.value_rows, Listing.understood}
-use Rattle.sqlite.specs.Rows.{shown, stamped}
-use Rattle.sqlite.specs.State.{State, Executes}
 use Rattle.desk_model.specs.Change.{put}
 use Rattle.sql_schema.proofs.Making.{went}
 use Rattle.sql_schema.specs.Schema.{desk_schema}
-use Rattle.sql_tables.specs.Effects.{Puts}
-use Rattle.sql_tables.specs.Layouts.{Layout}
+use Rattle.sql_tables.specs.{Effects.Puts, Layouts.Layout}
 use Rattle.sql_tables.proofs.Inserts.{Carries, Means, becomes, carries, has_done, no_works, ran, task_of}
-use Rattle.sql_tables.proofs.Keyed.{put_ascends, three}
-use Rattle.sql_tables.proofs.Upsert.{clause, puts_row}
+use Rattle.sql_tables.proofs.{Keyed.put_ascends, Keyed.three, Upsert.clause, Upsert.puts_row}
 
 -- the values at so many places, from this one on
 abbrev columns : ℕ → ℕ → List Term
@@ -71,17 +66,7 @@ unfoldable pub upsert_as : {X : Type 0} (L : Layout X) (params : X → Row) (tex
     → eval_all (updated_terms more) ((params x ++ Int (pos (L.key x)) ∷ shown L.table (L.image x)) ∷ L.image y ∷ []) ≡ Int (pos (L.key y)) ∷ L.image x)
     → ((x : X) → value_rows (stamped L.table (params x)) (more + 2) (length (inserted_terms more) / (more + 2)) (inserted_terms more) ≡ L.image x ∷ [])
     → IsUpsert L params text
-upsert_as L params text at n is plain found uncounted low first casts clash given sets source = record {
-  place = at;
-  more = n;
-  means = record { is = is; plain = plain };
-  table = record { found = found; uncounted = uncounted; low = low; first = first };
-  casts = casts;
-  clash = clash;
-  given = given;
-  sets = sets;
-  source = source;
-}
+upsert_as L params text at n is plain found uncounted low first casts clash given sets source = search rules
 
 -- the number of the row that is there is the key of the new one
 pub sets_key : {X : Type 0} (L : Layout X) (x y : X) → L.key y ≡ L.key x

@@ -1,11 +1,9 @@
 -- The texts that put, insert and renew the rows of each table whose key is its row number.
 use Rattle.std.proofs.Common.{pos, List, [], ◌∷◌, ◌++◌, drop, take, refl, arith}
-use Rattle.sqlite.specs.{Effect.Database, Listing.understood}
-use Rattle.sqlite.specs.declared.types.Value.TheVariants.{Int, Null}
+use Rattle.sqlite.specs.{Effect.Database, Listing.understood, declared.types.Value.TheVariants.Int, declared.types.Value.TheVariants.Null}
 use Rattle.sqlite_sql.specs.Term.{lit, col}
 use Rattle.sqlite_tied.specs.Compute.{everything}
-use Rattle.desk_model.specs.Change.{put}
-use Rattle.desk_model.specs.declared.rows.Meta.{Meta}
+use Rattle.desk_model.specs.{Change.put, declared.rows.Meta.Meta}
 use Rattle.store_columns.specs.Columns.{account_columns, authorization_columns, challenge_columns, key_columns, known_format, nonce_columns, order_columns}
 use Rattle.store_columns.specs.Flat.{bare_row}
 use Rattle.sql_schema.specs.Schema.{account_table, authz_table, chall_key_table, chall_table, meta_table, nonce_table, ord_table}
@@ -22,9 +20,8 @@ use Rattle.sql_tables.specs.Images.{challenge_kept, challenge_updates, challenge
 use Rattle.sql_tables.specs.Images.{meta_params, nonce_params, order_kept, order_updates, order_params}
 use Rattle.sql_tables.specs.Layouts.{HasRows, account_layout, authorization_layout, challenge_layout, formatted_layout, key_layout, meta_layout}
 use Rattle.sql_tables.specs.Layouts.{nonce_layout, order_layout}
-use Rattle.sql_tables.proofs.Casts.{cast_int, cast_int_or_null, cast_null, cast_text_or_null, row_kept}
-use Rattle.sql_tables.proofs.{Clashes.clash_by_key, InsertStatement.IsInsert, UpdateStatement.IsUpdate}
-use Rattle.sql_tables.proofs.UpsertStatement.{IsUpsert, sets_key, upsert_as}
+use Rattle.sql_tables.proofs.{Casts.cast_int, Casts.cast_int_or_null, Casts.cast_null, Casts.cast_text_or_null, Casts.row_kept, Clashes.clash_by_key}
+use Rattle.sql_tables.proofs.{InsertStatement.IsInsert, UpdateStatement.IsUpdate, UpsertStatement.IsUpsert, UpsertStatement.sets_key, UpsertStatement.upsert_as}
 
 -- a column keeps its value, and so do those behind it
 and : {A B : Type 0} → A → B → A × B

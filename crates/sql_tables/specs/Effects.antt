@@ -1,14 +1,11 @@
 -- What a statement makes of the tables.
 use Rattle.std.specs.Prelude.{◌≡◌, ◌≢◌, ◌&&◌, ◌==◌, ℕ, Bool, List, None, find}
-use Rattle.sqlite.specs.Effect.{Database, IsDatabase}
-use Rattle.sqlite.specs.Order.{Row}
+use Rattle.sqlite.specs.{Effect.Database, Effect.IsDatabase, Order.Row}
 use Rattle.sqlite_rules.specs.{Edit.IsNoIndex, Lists.Has}
 use Rattle.store_columns.specs.declared.columns.Owned.{Owned}
-use Rattle.desk_model.specs.Change.{put, remove}
-use Rattle.desk_model.specs.declared.rows.Listed.{Listed}
+use Rattle.desk_model.specs.{Change.put, Change.remove, declared.rows.Listed.Listed}
 use Rattle.sql_schema.specs.Schema.{desk_schema}
-use Rattle.sql_tables.specs.Hidden.{IsPlaced, next, number}
-use Rattle.sql_tables.specs.Layouts.{HasRows, Layout, listed_layout}
+use Rattle.sql_tables.specs.{Hidden.IsPlaced, Hidden.next, Hidden.number, Layouts.HasRows, Layouts.Layout, Layouts.listed_layout}
 
 -- every other table is as it was
 abbrev pub KeepsOthers : ℕ → Database → Database → Type 0

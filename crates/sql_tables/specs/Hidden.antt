@@ -1,7 +1,6 @@
 -- Rows under a hidden row number, which the engine chooses and keeps.
 use Rattle.std.specs.Prelude.{◌≡◌, ◌⊎◌, ℕ, ◌+◌, pos, List, ◌∷◌, fold, Bool, true, false}
-use Rattle.sqlite.specs.declared.types.Value.TheVariants.{Int}
-use Rattle.sqlite.specs.Order.{Row}
+use Rattle.sqlite.specs.{declared.types.Value.TheVariants.Int, Order.Row}
 use Rattle.sqlite_rules.specs.Lists.{Has}
 use Rattle.desk_model.specs.Change.{put}
 

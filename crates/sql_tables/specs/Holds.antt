@@ -1,20 +1,14 @@
 -- When a database is that of a desk with these tables.
-use Rattle.std.specs.Prelude.{◌≡◌, ℕ, List, [], ◌∷◌, map, false}
-use Rattle.std.specs.List.Sorted.{IsPermutation}
-use Rattle.sqlite.specs.Effect.{Database, IsDatabase}
-use Rattle.sqlite.specs.Order.{Row}
-use Rattle.store_columns.specs.declared.columns.Owned.{Owned}
+use Rattle.std.specs.{Prelude.◌≡◌, Prelude.ℕ, Prelude.List, Prelude.[], Prelude.◌∷◌, Prelude.map, Prelude.false, List.Sorted.IsPermutation}
+use Rattle.sqlite.specs.{Effect.Database, Effect.IsDatabase, Order.Row}
+use Rattle.store_columns.specs.{declared.columns.Owned.Owned, Columns.first_format, Flat.challenge_rows, Flat.key_rows, Flat.listed_rows}
 use Rattle.model_laws.specs.Distinct.{Distinct}
-use Rattle.desk_model.specs.{Kept.EachOf, Tables.Tables}
-use Rattle.desk_model.specs.declared.rows.Listed.{Listed}
+use Rattle.desk_model.specs.{Kept.EachOf, Tables.Tables, declared.rows.Listed.Listed}
 use Rattle.sql_schema.specs.Schema.{desk_schema, first_schema}
-use Rattle.store_columns.specs.Columns.{first_format}
-use Rattle.store_columns.specs.Flat.{challenge_rows, key_rows, listed_rows}
-use Rattle.sql_tables.specs.{Effects.is_same_place, Sorted.sorted_by}
-use Rattle.sql_tables.specs.Hidden.{hidden, number, row_of}
-use Rattle.sql_tables.specs.Images.{account_image, authorization_image, challenge_image, formatted_image, key_image}
-use Rattle.sql_tables.specs.Images.{listed_cells, meta_image, nonce_image, order_image}
+use Rattle.sql_tables.specs.Images.{account_image, authorization_image, challenge_image, formatted_image, key_image, listed_cells, meta_image, nonce_image}
+use Rattle.sql_tables.specs.Images.{order_image}
 use Rattle.sql_tables.specs.Layouts.{IsRising, account_layout, authorization_layout, challenge_layout, key_layout, nonce_layout, order_layout}
+use Rattle.sql_tables.specs.{Effects.is_same_place, Sorted.sorted_by, Hidden.hidden, Hidden.number, Hidden.row_of}
 
 -- no place of an order stands twice
 abbrev pub AreApart : List (Owned Listed) → Type 0

@@ -1,15 +1,13 @@
 -- The rows of the tables: the parameters of a statement, in the order of the columns, and the row as the engine keeps it.
 use Rattle.std.specs.Prelude.{ℕ, ℤ, List, Option, [], ◌∷◌, ◌++◌, drop}
-use Rattle.sqlite.specs.declared.types.Value.{Value}
 use Rattle.sqlite.specs.declared.types.Value.TheVariants.{Null, Int, Text, Blob}
-use Rattle.sqlite.specs.{Order.Row, Values.or_null}
-use Rattle.store_columns.specs.Columns.{account_columns, authorization_columns, challenge_columns, key_columns}
-use Rattle.store_columns.specs.Columns.{listed_columns, meta_columns, nonce_columns, order_columns}
+use Rattle.sqlite.specs.{declared.types.Value.Value, Order.Row, Values.or_null}
+use Rattle.store_columns.specs.Columns.{account_columns, authorization_columns, challenge_columns, key_columns, listed_columns, meta_columns, nonce_columns}
+use Rattle.store_columns.specs.Columns.{order_columns}
 use Rattle.store_columns.specs.Flat.{bare_row}
-use Rattle.store_columns.specs.declared.{columns.AccountColumns.AccountColumns, columns.AuthzColumns.AuthzColumns, columns.ChallColumns.ChallColumns}
-use Rattle.store_columns.specs.declared.{columns.ChallKeyColumns.ChallKeyColumns, columns.MetaColumns.MetaColumns, columns.NonceColumns.NonceColumns}
-use Rattle.store_columns.specs.declared.{columns.OrderAuthzColumns.OrderAuthzColumns, columns.OrderColumns.OrderColumns, columns.AnswerKey.AnswerKey}
-use Rattle.store_columns.specs.declared.{columns.Owned.Owned}
+use Rattle.store_columns.specs.declared.columns.{AccountColumns.AccountColumns, AuthzColumns.AuthzColumns, ChallColumns.ChallColumns}
+use Rattle.store_columns.specs.declared.columns.{ChallKeyColumns.ChallKeyColumns, MetaColumns.MetaColumns, NonceColumns.NonceColumns}
+use Rattle.store_columns.specs.declared.columns.{OrderAuthzColumns.OrderAuthzColumns, OrderColumns.OrderColumns, AnswerKey.AnswerKey, Owned.Owned}
 use Rattle.desk_model.specs.declared.{objects.Nonce.Nonce, rows.AccountRow.AccountRow, rows.AuthorizationRow.AuthorizationRow, rows.ChallengeRow.ChallengeRow}
 use Rattle.desk_model.specs.declared.{rows.Listed.Listed, rows.Meta.Meta, rows.OrderRow.OrderRow}
 

@@ -1,22 +1,15 @@
 -- A desk in format 1, made format 2, is the same desk.
-use Rattle.std.proofs.Common.{◌≡◌, false, Result, Ok, Err, OnOk, sym, subst, ◌∙◌}
+use Rattle.std.proofs.Common.{◌≡◌, false, Result, Ok, Err, OnOk, sym, subst, ◌∙◌, rules}
 use Rattle.sqlite.specs.{State.State, Tree.Trees, Effect.Database}
-use Rattle.sql_write.specs.Committing.{HasCommitted, IsLeft}
+use Rattle.sql_write.specs.{Committing.HasCommitted, Committing.IsLeft, Upgrading.Upgrades}
 use Rattle.model_laws.proofs.FirstKeys.{rows_under}
-use Rattle.desk_model.specs.History.{clock}
-use Rattle.sql_upgrade.specs.FirstDesks.{BringsDesk, PicturesAreFirstDesks, UpgradesDesk}
-use Rattle.sql_upgrade.specs.declared.additions.Additions.{Additions}
-use Rattle.sql_write.specs.Upgrading.{Upgrades}
+use Rattle.sql_upgrade.specs.{FirstDesks.BringsDesk, FirstDesks.PicturesAreFirstDesks, FirstDesks.UpgradesDesk, declared.additions.Additions.Additions}
 use Rattle.sql_tables.specs.Holds.{Holds}
 use Rattle.store_laws.proofs.FlatTexts.{picture_is_stored_book}
 
 -- the tables of a legal history in which no account got another key are such a desk
 pub pictures_are_first : PicturesAreFirstDesks
-pictures_are_first db F legal keeps holds = record {
-  holds = holds;
-  book = picture_is_stored_book F legal;
-  keys = rows_under F legal.each keeps (clock F);
-}
+pictures_are_first db F legal keeps holds = search (rules, picture_is_stored_book, rows_under)
 
 -- so what was written makes format 2 of each desk to which it is added
 pub desks_upgrade : (additions : Additions) (old new : Database) → Upgrades additions.meta additions.keys.items old new → UpgradesDesk additions old new
@@ -26,8 +19,7 @@ desks_upgrade additions old new upgrades T desk added = upgrades T desk.holds (s
 pub committed_as : {A E : Type 0} (r : Result A E) (old new : State) (Does Says : Database → Database → Type 0)
     → (Does old.now new.committed → Says old.now new.committed)
     → OnOk r (HasCommitted old new Does) → OnOk r (HasCommitted old new Says)
-committed_as (Err e) old new Does Says means it = tt
-committed_as (Ok x) old new Does Says means it = record { is_open = it.is_open; does = means it.does; settled = it.settled; left = it.left }
+committed_as r old new Does Says h k = search rules
 
 -- what a stop left, in other words
 pub left_as : (old : Database) (trees : Trees) (Does Says : Database → Database → Type 0) → ((new : Database) → Does old new → Says old new)

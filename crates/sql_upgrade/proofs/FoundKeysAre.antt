@@ -1,24 +1,20 @@
 -- The keys of answers that are found by rows are those of the desk.
 use Rattle.std.specs.Prelude.{◌==◌, IfSome, IsSome, find, option_and_then, option_map}
-use Rattle.std.proofs.Common.{◌≡◌, ℕ, List, [], ◌∷◌, map, Option, Some, None, refl, sym, ap, subst, ◌∙◌}
+use Rattle.std.proofs.Common.{◌≡◌, ℕ, List, [], ◌∷◌, map, Option, Some, None, refl, sym, ap, subst, ◌∙◌, rules}
 use Rattle.std.proofs.lemmas.Simd.{map-map}
-use Rattle.sqlite.specs.Held.{Held, state}
-use Rattle.sqlite.specs.Store.{Ghosts}
-use Rattle.store_columns.specs.Columns.{account_columns, authorization_columns, challenge_columns}
+use Rattle.sqlite.specs.{Held.Held, Held.state, Store.Ghosts}
 use Rattle.store_columns.specs.Flat.{answer_key, bare_row, challenge_rows, key_rows, owned_by, without_challenges}
-use Rattle.store_columns.specs.Limits.{IsStoredAccount, IsStoredAuthorization, IsStoredChallenge}
-use Rattle.store_columns.specs.declared.columns.{AnswerKey.AnswerKey, Owned.Owned}
+use Rattle.store_columns.specs.{Columns.account_columns, Columns.authorization_columns, Columns.challenge_columns, Limits.IsStoredAccount}
+use Rattle.store_columns.specs.{Limits.IsStoredAuthorization, Limits.IsStoredChallenge, declared.columns.AnswerKey.AnswerKey, declared.columns.Owned.Owned}
 use Rattle.store_columns.proofs.RowsApart.{accounts-apart, authorizations-apart, challenges-apart}
 use Rattle.model_laws.proofs.Basics.{each, each-append, each-map, each_both, find-map}
 use Rattle.model_laws.proofs.RowLists.{ascends_found, ascends_map, puts_ascending}
 use Rattle.model_laws.specs.{FirstLaws.IsUnder, Ordered.Ascends, Placing.puts}
-use Rattle.desk_model.specs.Effect.{key_in, key_numbered}
-use Rattle.desk_model.specs.{Keys.thumbprint, Kept.EachOf, Questions.account_on, Tables.Tables}
+use Rattle.desk_model.specs.{Effect.key_in, Effect.key_numbered, Keys.thumbprint, Kept.EachOf, Questions.account_on, Tables.Tables}
 use Rattle.desk_model.specs.declared.{objects.Answer.Answer, rows.AccountRow.AccountRow, rows.AuthorizationRow.AuthorizationRow, rows.ChallengeRow.ChallengeRow}
 use Rattle.sql_read.proofs.FirstTables.{first_accounts, first_authorizations, first_challenges}
 use Rattle.sql_read.proofs.{FoundRows.rows_back, Lists.each_map_sorted}
-use Rattle.sql_tables.specs.Layouts.{challenge_layout, key_layout}
-use Rattle.sql_tables.specs.Sorted.{sorted_by}
+use Rattle.sql_tables.specs.{Layouts.challenge_layout, Layouts.key_layout, Sorted.sorted_by}
 use Rattle.sql_tables.proofs.Sorting.{each_sorted, sorted_rises}
 use Rattle.sql_write.specs.Upgrading.{AreKeysOf}
 use Rattle.sql_upgrade.specs.FirstDesks.{IsFirstDesk}
@@ -80,12 +76,7 @@ module _ (T : Tables) where
 
 -- an answer's key has the number of its challenge
 key_numbers : (c : Owned ChallengeRow) → IfSome (answer_key c.row) (λ (k : AnswerKey). k.challenge ≡ c.row.number)
-key_numbers c = by c.row.answered
-  where
-    by : (o : Option Answer)
-        → IfSome {T = AnswerKey} (option_map (λ (x : Answer). record { challenge = c.row.number; thumb = x.thumb }) o) (λ k. k.challenge ≡ c.row.number)
-    by None = tt
-    by (Some x) = refl
+key_numbers c = search rules
 
 module _ {S : Type 0} (g : Ghosts S) (conn : Held S) (T : Tables) (desk : IsFirstDesk (state g conn).now T) where
   -- each account is found

@@ -1,20 +1,15 @@
 -- Tables that are read for keys, one after the other.
-use Rattle.std.proofs.Common.{◌⊎◌, inl, inr, ℕ, List, Option, Some, None, Result, Err, IfErr, IfOk, IfSome, IsSome, MatchOption, OnOk, refl}
-use Rattle.sqlite.specs.Held.{Held, state}
-use Rattle.sqlite.specs.{Order.Row, Store.Ghosts}
-use Rattle.sqlite.specs.State.{HasCleanDisk, IsUnchanged}
-use Rattle.sqlite.specs.declared.error.Error.{Error}
+use Rattle.std.proofs.Common.{◌⊎◌, inl, inr, ℕ, List, Option, Some, None, Result, Err, IfErr, IfOk, IfSome, IsSome, MatchOption, OnOk, refl, rules}
+use Rattle.sqlite.specs.{Held.Held, Held.state, Order.Row, Store.Ghosts, State.HasCleanDisk, State.IsUnchanged, declared.error.Error.Error}
 use Rattle.store_book.specs.IsBook.{IsBookOfStored, IsStoredBook}
 use Rattle.store_columns.specs.declared.columns.StoredRows.{StoredRows}
 use Rattle.desk_model.specs.Tables.{Tables}
 use Rattle.sql_read.specs.{AllTables.FailsAtFirst, First.AreFirstShown, FirstRows.HasNoFirstBook, FirstRows.IsFirstReadable, Reads.Reads}
 use Rattle.sql_read.specs.Failures.{FailsHere, HasTexts, IsMet, IsOutOfMemory, IsReadable, MayRead}
-use Rattle.sql_read.proofs.FirstChecked.{FailsAtRows, reads_err}
-use Rattle.sql_read.proofs.{HeldBooks.held_first_only, Results.fails_then}
+use Rattle.sql_read.proofs.{FirstChecked.FailsAtRows, FirstChecked.reads_err, HeldBooks.held_first_only, Results.fails_then}
 use Rattle.sql_schema.specs.{Failing.IsFailure, Stays.Asks}
 use Rattle.sql_tables.specs.Holds.{HoldsFirst}
-use Rattle.sql_upgrade.specs.Checked.{AreChecked}
-use Rattle.sql_upgrade.specs.declared.additions.Additions.{Additions}
+use Rattle.sql_upgrade.specs.{Checked.AreChecked, declared.additions.Additions.Additions}
 
 module _ {S A : Type 0} (g : Ghosts S) where
   -- one table was read, or its reading failed, or rows did not pass
@@ -62,8 +57,7 @@ has_checked_book g N conn (Some additions) is some = (is.stored, is.shown, is.bo
 
 -- what is so of what was found
 pub some_said : {A : Type 0} (N : Type 0) (P : A → Type 0) (found : Option A) → MatchOption found N P → IfSome found P
-some_said N P (Some a) p = p
-some_said N P None p = tt
+some_said N P found h = search rules
 
 -- of a desk something is
 pub is_found : {S : Type 0} (g : Ghosts S) (conn : Held S) (T : Tables) → HoldsFirst (state g conn).now T → IsStoredBook T → (found : Option Additions)

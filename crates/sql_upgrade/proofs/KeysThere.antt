@@ -1,15 +1,12 @@
 -- A book's rows in format 1 have the keys of their answers.
-use Rattle.std.proofs.Common.{◌≡◌, ℕ, Bool, true, false, cond, List, [], ◌∷◌, map, Option, Some, None, refl, sym, subst, subst₂}
+use Rattle.std.proofs.Common.{◌≡◌, ℕ, Bool, false, List, [], ◌∷◌, map, Option, Some, None, refl, sym, subst, subst₂, arith, rules}
 use Rattle.std.specs.Prelude.{◌==◌, IfSome, IsSome, is_some, find, option_and_then, option_map}
-use Rattle.sqlite.specs.Held.{Held, state}
-use Rattle.sqlite.specs.Store.{Ghosts}
+use Rattle.sqlite.specs.{Held.Held, Held.state, Store.Ghosts}
 use Rattle.store_columns.specs.declared.columns.{AnswerKey.AnswerKey, BareChallenge.BareChallenge, FlatRows.FlatRows, Owned.Owned}
 use Rattle.store_book.specs.BookRows.{AreBookRows, IsAmong}
 use Rattle.store_book.proofs.{KeyedRows.books_have_rows, Owners.found_among}
-use Rattle.model_laws.proofs.Basics.{each, find-map}
-use Rattle.model_laws.proofs.RowLists.{ascends_map, puts_ascending}
-use Rattle.desk_model.specs.{Kept.EachOf}
-use Rattle.desk_model.specs.declared.rows.{AccountRow.AccountRow, AuthorizationRow.AuthorizationRow, Meta.Meta}
+use Rattle.model_laws.proofs.{Basics.each, Basics.find-map, RowLists.ascends_map, RowLists.puts_ascending}
+use Rattle.desk_model.specs.{Kept.EachOf, declared.rows.AccountRow.AccountRow, declared.rows.AuthorizationRow.AuthorizationRow, declared.rows.Meta.Meta}
 use Rattle.sql_read.specs.FirstRows.{HasNoFirstBook}
 use Rattle.sql_upgrade.specs.FoundKeys.{HasKey, LacksThumbs, account_of, account_rows, found_key, row_key, thumb_of, thumb_rows}
 use Rattle.sql_upgrade.specs.declared.key_checks.{AccountThumb.AccountThumb, AuthorizationAccount.AuthorizationAccount}
@@ -17,11 +14,7 @@ use Rattle.sql_upgrade.specs.declared.key_checks.{AccountThumb.AccountThumb, Aut
 -- what holds of each holds of what is found
 found_holds : {X : Type 0} (P : X → Type 0) (p : X → Bool) (xs : List X) → EachOf P xs → IfSome (find p xs) P
 found_holds P p [] h = tt
-found_holds {X} P p (x ∷ xs) h = by (p x) (found_holds P p xs h.1)
-  where
-    by : (b : Bool) → IfSome (find p xs) P → IfSome (cond b (Some x) (find p xs)) P
-    by true rest = h.0
-    by false rest = rest
+found_holds {X} P p (x ∷ xs) h = grind (arith, (found_holds P p xs h.1))
 
 -- the key of an answer to a challenge of one of these authorizations is found, where each has one of these accounts
 key_found : (authorizations : List AuthorizationRow) (accounts : List AccountRow) (n number : ℕ) → IsAmong (map (λ a. a.number) authorizations) n
@@ -44,10 +37,7 @@ key_found authorizations accounts n number among owned =
 
     by : (o : Option AuthorizationRow) → IsSome o → IfSome o (λ a. IsAmong (map (λ t. t.number) accounts) a.account)
         → IsSome (option_and_then key_of (option_map account_of o))
-    by None some among = absurd (cc some)
-    by (Some a) some among =
-        subst (λ o. IsSome (key_with o)) (sym (find-map (λ (t : AccountThumb). t.number == a.account) thumb_of accounts))
-        (there (find (λ t. t.number == a.account) accounts) (found_among (λ (t : AccountRow). t.number) a.account accounts among))
+    by l h k = grind (arith, find-map)
 
 -- so each answer of a book's rows has its key
 pub all_have_keys : (meta : Meta) (rows : FlatRows) → AreBookRows meta rows
@@ -74,14 +64,4 @@ no_keys g conn lacks T only =
 -- a key that is there is not missing
 pub key_there : (accounts others : List AuthorizationAccount) (thumbs marks : List AccountThumb) (c : Owned BareChallenge) (key : Option AnswerKey)
     → others ≡ accounts → marks ≡ thumbs → key ≡ row_key others marks c → HasKey accounts thumbs c → IsSome c.row.answered → is_some key ≡ false → ⊥
-key_there accounts others thumbs marks c key same alike is has answered =
-    missing key (subst IsSome (sym is) (subst₂ (λ os ts. IsSome (row_key os ts c)) (sym same) (sym alike) (by c.row.answered has answered)))
-  where
-    missing : (o : Option AnswerKey) → IsSome o → is_some o ≡ false → ⊥
-    missing None some none = absurd (cc some)
-    missing (Some k) some none = absurd (cc none)
-
-    by : (o : Option ℕ) → IfSome o (λ _. IsSome (found_key accounts thumbs c.owner c.row.number)) → IsSome o
-        → IsSome (option_and_then (λ _. found_key accounts thumbs c.owner c.row.number) o)
-    by None has some = absurd (cc some)
-    by (Some date) has some = has
+key_there accounts others thumbs marks c key same alike is has answered = search rules

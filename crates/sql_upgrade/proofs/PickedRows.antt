@@ -1,13 +1,11 @@
 -- What is picked from rows, and from rows by number.
-use Rattle.std.specs.List.{cons_option}
-use Rattle.std.specs.Prelude.{IfSome, filter_map}
+use Rattle.std.specs.{List.cons_option, Prelude.IfSome, Prelude.filter_map}
 use Rattle.std.proofs.Common.{◌≡◌, ◌≢◌, inl, inr, ℕ, ◌+◌, ◌<◌, List, [], ◌∷◌, map, Option, Some, None, refl, sym, ap, ◌∙◌, arith}
 use Rattle.model_laws.proofs.RowLists.{ascends_above, ascends_from, put_before, put_first, put_past}
 use Rattle.model_laws.specs.{Distinct.Distinct, Ordered.Ascends}
 use Rattle.desk_model.specs.{Change.put, Kept.EachOf}
 use Rattle.sql_tables.specs.Sorted.{sorted_by}
-use Rattle.sql_tables.proofs.Keyed.{ranked}
-use Rattle.sql_tables.proofs.Sorting.{IsApart, each_sorted, sorted_rises}
+use Rattle.sql_tables.proofs.{Keyed.ranked, Sorting.IsApart, Sorting.each_sorted, Sorting.sorted_rises}
 
 -- what is picked alike from each
 pub picked_alike : {X Y : Type 0} (f h : X → Option Y) (xs : List X) → EachOf (λ x. f x ≡ h x) xs → filter_map f xs ≡ filter_map h xs

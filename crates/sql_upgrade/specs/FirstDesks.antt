@@ -2,8 +2,7 @@
 use Rattle.std.specs.Prelude.{◌≡◌, false, None, IsTrue}
 use Rattle.sqlite.specs.{Effect.Database, State.State, Tree.Trees}
 use Rattle.model_laws.specs.FirstLaws.{AreUnderKeysNow, KeepsKeys}
-use Rattle.desk_model.specs.{Entry.History, Legal.Legal}
-use Rattle.desk_model.specs.Tables.{Tables, picture}
+use Rattle.desk_model.specs.{Entry.History, Legal.Legal, Tables.Tables, Tables.picture}
 use Rattle.sql_write.specs.{Committing.IsLeft, Upgrading.AreKeysOf}
 use Rattle.sql_tables.specs.Holds.{Holds, HoldsFirst}
 use Rattle.sql_upgrade.specs.declared.additions.Additions.{Additions}

@@ -5,15 +5,13 @@ use Rattle.store_columns.specs.Columns.{account_columns, authorization_columns, 
 use Rattle.store_columns.specs.Limits.{AreStored, IsStoredAccount, IsStoredAuthorization, IsStoredChallenge}
 use Rattle.store_columns.specs.declared.columns.{AnswerKey.AnswerKey, BareChallenge.BareChallenge, FlatRows.FlatRows, Owned.Owned}
 use Rattle.model_laws.specs.Placing.{puts}
-use Rattle.desk_model.specs.{Keys.thumbprint, Kept.EachOf}
-use Rattle.desk_model.specs.declared.rows.{AccountRow.AccountRow, AuthorizationRow.AuthorizationRow}
-use Rattle.sql_read.specs.Checking.{ShowsOnly, ShowsTable}
-use Rattle.sql_read.specs.Only.{ShowsOnlyFirstRows}
+use Rattle.desk_model.specs.{Keys.thumbprint, Kept.EachOf, declared.rows.AccountRow.AccountRow, declared.rows.AuthorizationRow.AuthorizationRow}
+use Rattle.desk_model.specs.{declared.rows.Meta.Meta}
 use Rattle.sql_read.specs.Spelled.{FitsChallenge, account_in, authorization_in, challenge_in}
+use Rattle.sql_read.specs.{Checking.ShowsOnly, Checking.ShowsTable, Only.ShowsOnlyFirstRows}
 use Rattle.sql_schema.specs.declared.accounts.TheConstants as account
 use Rattle.sql_schema.specs.declared.authorizations.TheConstants as authz
 use Rattle.sql_schema.specs.declared.challenges.TheConstants as chall
-use Rattle.desk_model.specs.declared.rows.Meta.{Meta}
 use Rattle.sql_upgrade.specs.declared.{additions.Additions.Additions, key_checks.AccountThumb.AccountThumb}
 use Rattle.sql_upgrade.specs.declared.{key_checks.AuthorizationAccount.AuthorizationAccount}
 

@@ -1,7 +1,7 @@
 -- The numbers of challenges, under their authorizations and without them.
 use Rattle.std.specs.List.{flat_map}
-use Rattle.std.proofs.Common.{◌≡◌, ℕ, ◌++◌, List, [], ◌∷◌, map, refl, sym, ap, subst, ◌∙◌}
-use Rattle.std.proofs.lemmas.List.{map-append}
+use Rattle.std.proofs.Common.{◌≡◌, ℕ, ◌++◌, List, [], ◌∷◌, map, refl, sym, ap, subst, ◌∙◌, arith}
+use Rattle.std.proofs.{lemmas.List.map-append}
 use Rattle.store_columns.specs.Flat.{challenge_rows, owned_by}
 use Rattle.model_laws.proofs.Distinctness.{distinct-map, map-distinct}
 use Rattle.model_laws.specs.Distinct.{Distinct}
@@ -27,8 +27,7 @@ keys_of_all (a ∷ rows) =
 -- those of the challenges alone
 numbers_of_all : (rows : List AuthorizationRow) → map (λ c. c.number) (flat_map (λ (a : AuthorizationRow). a.challenges) rows) ≡ flat_map numbers_in rows
 numbers_of_all [] = refl
-numbers_of_all (a ∷ rows) =
-    map-append (λ c. c.number) a.challenges (flat_map (λ (b : AuthorizationRow). b.challenges) rows) ∙ ap (λ ks. numbers_in a ++ ks) (numbers_of_all rows)
+numbers_of_all (a ∷ rows) = grind (arith, map-append, (numbers_of_all rows))
 
 -- rows that differ in number have numbers that differ
 pub numbers_differ : (rows : List AuthorizationRow) → Distinct challenge_layout.key (challenge_rows rows) → Distinct (λ n. n) (flat_map numbers_in rows)

@@ -1,13 +1,10 @@
 -- What a transaction leaves behind.
 use Rattle.std.proofs.Common.{◌≡◌, Result, Ok, Err, IfErr, IsOk, IsTrue, OnErr, OnOk, refl, sym, subst, ◌∙◌, arith}
-use Rattle.sqlite.specs.{Effect.Database, Store.Ghosts}
-use Rattle.sqlite.specs.Held.{Held, state}
-use Rattle.sqlite.specs.State.{HasCleanDisk, IsRolledBack, Survives}
+use Rattle.sqlite.specs.{Effect.Database, Store.Ghosts, Held.Held, Held.state, State.HasCleanDisk, State.IsRolledBack, State.Survives}
 use Rattle.sqlite.proofs.{Callers.survives_begin, StateLemmas.survives_then}
 use Rattle.sql_schema.specs.Advances.{Advances, KeepsLast}
 use Rattle.sql_write.specs.Committing.{GoesBack, HasCommitted, IsBeforeCommit, IsLeft}
-use Rattle.sql_write.specs.Refusals.{begun}
-use Rattle.sql_write.specs.declared.fault.SaveFault.{SaveFault}
+use Rattle.sql_write.specs.{Refusals.begun, declared.fault.SaveFault.SaveFault}
 
 -- a connection before a transaction, when it was begun, at its last call and behind its end
 module _ {S : Type 0} (g : Ghosts S) (old first last after : Held S) (begins : first ≡ begun old) (done : Result (Unit {0}) SaveFault) where

@@ -1,24 +1,19 @@
 -- What orders list after one of them is put.
-use Rattle.std.specs.Prelude.{IfSome, find, ◌==◌}
-use Rattle.std.specs.List.Sorted.{IsPermutation}
+use Rattle.std.specs.{Prelude.IfSome, Prelude.find, Prelude.◌==◌, List.Sorted.IsPermutation}
 use Rattle.std.proofs.Common.{◌≡◌, ◌≢◌, inl, inr, ℕ, ◌+◌, ◌++◌, List, [], ◌∷◌, map, Option, Some, None, false, refl, sym, ap, subst, ◌∙◌, arith, append-nil}
-use Rattle.std.proofs.lemmas.List.{append_assoc}
-use Rattle.std.proofs.lemmas.List.Sorted.{IsPermutation-refl, IsPermutation-sym, IsPermutation-trans, IsPermutation-append_left}
-use Rattle.std.proofs.lemmas.List.Sorted.{IsPermutation-append_right, IsPermutation-append_comm}
+use Rattle.std.proofs.lemmas.List.Sorted.{IsPermutation-refl, IsPermutation-sym, IsPermutation-trans, IsPermutation-append_left, IsPermutation-append_right}
+use Rattle.std.proofs.lemmas.List.Sorted.{IsPermutation-append_comm}
+use Rattle.std.proofs.{lemmas.List.append_assoc}
 use Rattle.sqlite_rules.specs.Lists.{Has}
-use Rattle.store_columns.specs.Flat.{listed_rows, owned_by}
-use Rattle.store_columns.specs.declared.columns.Owned.{Owned}
-use Rattle.model_laws.proofs.RowLists.{ascends_above, put_before, put_instead, put_past}
+use Rattle.store_columns.specs.{Flat.listed_rows, Flat.owned_by, declared.columns.Owned.Owned}
+use Rattle.model_laws.proofs.{RowLists.ascends_above, RowLists.put_before, RowLists.put_instead, RowLists.put_past, Basics.each_parts}
 use Rattle.model_laws.specs.Ordered.{Ascends}
-use Rattle.desk_model.specs.Change.{put}
-use Rattle.desk_model.specs.declared.rows.{Listed.Listed, OrderRow.OrderRow}
+use Rattle.desk_model.specs.{Change.put, declared.rows.Listed.Listed, declared.rows.OrderRow.OrderRow}
 use Rattle.sql_write.specs.Makes.{ArePlaced}
 use Rattle.sql_write.proofs.Numbered.{find_here, find_later, find_none}
 use Rattle.sql_write.proofs.PlacedRows.{has_left, has_parts, has_right, has_through, image_of, new_rows, owners_apart, stays}
-use Rattle.sql_tables.specs.{Effects.is_same_place, Holds.AreApart, Layouts.IsRising}
-use Rattle.sql_tables.specs.Hidden.{number, row_of}
+use Rattle.sql_tables.specs.{Effects.is_same_place, Holds.AreApart, Layouts.IsRising, Hidden.number, Hidden.row_of}
 use Rattle.sql_tables.proofs.{Keyed.ranked, HiddenUpsert.has_map}
-use Rattle.model_laws.proofs.Basics.{each_parts}
 
 -- the number of an order
 abbrev number_of : OrderRow → ℕ
@@ -66,18 +61,7 @@ found_in n x (p ∷ ps) o up found kept = elim (ranked p.number x.number) [
 -- no row is of an order that is not there
 none_own : (x : OrderRow) (os : List OrderRow) → order_at x.number os ≡ None → (l : Owned Listed) → Has (listed_rows os) l → l.owner ≢ x.number
 none_own x [] none l h e = h
-none_own x (p ∷ ps) none l h e = elim (ranked p.number x.number) [
-  | inl less ↦ go (λ f. omega (arith, f, less.low)) (none_own x ps) h
-  | inr (inl tied) ↦ let some : Some p ≡ None = sym (find_here number_of x.number p ps tied.same) ∙ none in absurd (cc some)
-  | inr (inr more) ↦ go (λ f. omega (arith, f, more.high)) (none_own x ps) h
-]
-  where
-    go : p.number ≢ x.number → (order_at x.number ps ≡ None → (l : Owned Listed) → Has (listed_rows ps) l → l.owner ≢ x.number) → Has (listed_rows (p ∷ ps)) l
-        → ⊥
-    go apart more h = elim (has_parts (owned_by p.number p.listed) (listed_rows ps) l h) [
-      | inl own ↦ let at = image_of _ p.listed l own in apart (sym (ap (λ (k : Owned Listed). k.owner) at.2) ∙ e)
-      | inr rest ↦ more (sym (find_later number_of x.number p ps apart) ∙ none) l rest e
-    ]
+none_own x (p ∷ ps) none l h e = grind (arith, has_parts, image_of, (none_own x ps))
 
 -- rows of one order are its own
 owned_are : (n : ℕ) (ls : List Listed) (l : Owned Listed) → Has (owned_by n ls) l → l.owner ≡ n

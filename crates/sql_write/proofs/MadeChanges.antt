@@ -1,43 +1,27 @@
 -- What each change makes of a desk's database.
-use Rattle.std.specs.Prelude.{IfSome, find, option_map, ◌==◌}
-use Rattle.std.specs.List.Sorted.{IsPermutation}
-use Rattle.std.proofs.Common.{◌≡◌, inl, ℕ, ℤ, List, [], ◌∷◌, map, Option, Some, None, Result, refl, sym, ap, subst, ◌∙◌, arith}
-use Rattle.std.proofs.lemmas.List.Sorted.{IsPermutation-append_left, IsPermutation-trans}
-use Rattle.sqlite.specs.{Effect.Database, Store.Ghosts}
-use Rattle.sqlite.specs.Held.{Held, state}
+use Rattle.std.specs.{Prelude.IfSome, Prelude.find, Prelude.◌==◌, List.Sorted.IsPermutation}
+use Rattle.std.proofs.Common.{◌≡◌, inl, ℕ, ℤ, List, [], ◌∷◌, map, Option, Some, None, Result, refl, sym, ap, subst, ◌∙◌, arith, rules}
+use Rattle.std.proofs.{lemmas.List.Sorted.IsPermutation-append_left, lemmas.List.Sorted.IsPermutation-trans}
+use Rattle.sqlite.specs.{Effect.Database, Store.Ghosts, Held.Held, Held.state}
 use Rattle.sqlite_rules.specs.Lists.{Has}
-use Rattle.store_columns.specs.Columns.{known_format, order_columns}
-use Rattle.store_columns.specs.Flat.{challenge_rows, key_rows, listed_rows, owned_by}
-use Rattle.model_laws.specs.{Distinct.Distinct, Placing.puts}
-use Rattle.model_laws.specs.News.{KeepChallenges, KeepsChildren}
-use Rattle.desk_model.specs.Change.{applied_one, put}
-use Rattle.desk_model.specs.Questions.{account_on, authorization_on, order_on}
-use Rattle.desk_model.specs.Tables.{Tables}
-use Rattle.desk_model.specs.declared.{objects.Nonce.Nonce, rows.AccountRow.AccountRow, rows.AuthorizationRow.AuthorizationRow, rows.Meta.Meta}
-use Rattle.desk_model.specs.declared.{rows.OrderRow.OrderRow, rows.Change.Change, rows.Counters.Counters}
+use Rattle.store_columns.specs.{Columns.known_format, Columns.order_columns, Flat.challenge_rows, Flat.key_rows, Flat.listed_rows, Flat.owned_by}
+use Rattle.model_laws.specs.{Distinct.Distinct, Placing.puts, News.KeepsChildren}
 use Rattle.desk_model.specs.declared.rows.Change.TheVariants.{PutMeta, PutNonce, RemoveNonce, PutAccount, PutAuthorization, PutOrder}
+use Rattle.desk_model.specs.{Change.applied_one, Change.put, Questions.account_on, Questions.authorization_on, Questions.order_on, Tables.Tables}
+use Rattle.desk_model.specs.{declared.objects.Nonce.Nonce, declared.rows.AccountRow.AccountRow, declared.rows.AuthorizationRow.AuthorizationRow}
+use Rattle.desk_model.specs.{declared.rows.Meta.Meta, declared.rows.OrderRow.OrderRow, declared.rows.Change.Change, declared.rows.Counters.Counters}
 use Rattle.sql_write.specs.Makes.{AppendsAll, Makes, PlacesAll, PutsOver, SavesAuthorization, SavesMeta, SavesOrder, WritesOrder, appended}
-use Rattle.sql_write.specs.{Refusals.HasWritten, Statements.statements_of}
-use Rattle.sql_write.specs.Stored.{HasSome, IsMadeAs}
-use Rattle.sql_write.specs.declared.{fault.SaveFault.SaveFault, stored.Write.Write}
-use Rattle.sql_write.specs.declared.stored.Write.TheVariants.{Upsert, Insert, Update}
-use Rattle.sql_write.proofs.{ChallengeNumbers.keys_owned, InPlace.put_alike, Over.has_own, PlacedRows.appended_rows, Written.written_as}
-use Rattle.sql_write.proofs.StoredChildren.{IsThere, challenges_stand, keys_stand}
-use Rattle.sql_write.proofs.KeyRows.{keys_flat, keys_within}
-use Rattle.sql_write.proofs.ListedAfter.{added as added_listed, found_in, listed_after}
-use Rattle.sql_write.proofs.NestedRows.{children_put, own_apart}
-use Rattle.sql_write.proofs.Numbered.{AreWithin, within_same}
-use Rattle.sql_write.proofs.StoredRows.{account_found, found_has}
+use Rattle.sql_write.specs.{Refusals.HasWritten, Statements.statements_of, Stored.HasSome, Stored.IsMadeAs, declared.fault.SaveFault.SaveFault}
+use Rattle.sql_write.specs.declared.stored.{Write.Write, Write.TheVariants.Upsert, Write.TheVariants.Insert, Write.TheVariants.Update}
+use Rattle.sql_write.proofs.{ChallengeNumbers.keys_owned, InPlace.put_alike, Over.has_own, PlacedRows.appended_rows, StoredChildren.IsThere}
+use Rattle.sql_write.proofs.{StoredChildren.challenges_stand, StoredChildren.keys_stand, KeyRows.keys_flat, KeyRows.keys_within}
+use Rattle.sql_write.proofs.{ListedAfter.added as added_listed, ListedAfter.found_in, ListedAfter.listed_after, NestedRows.children_put, NestedRows.own_apart}
+use Rattle.sql_write.proofs.{Numbered.AreWithin, Numbered.within_same, StoredRows.account_found, StoredRows.found_has}
 use Rattle.sql_tables.specs.Effects.{Adds, BecomesRows, Puts, Removes, Renews}
-use Rattle.sql_tables.specs.Holds.{AreRising, Holds}
-use Rattle.sql_tables.specs.Images.{challenge_image, key_image, order_kept}
-use Rattle.sql_tables.specs.Layouts.{HasRows, account_layout, authorization_layout, challenge_layout, formatted_layout}
-use Rattle.sql_tables.specs.Layouts.{key_layout, listed_layout, nonce_layout, order_layout}
-use Rattle.sql_tables.specs.Sorted.{sorted_by}
-use Rattle.sql_tables.proofs.{Keyed.put_ascends, AnswerKeys.keys_apart}
+use Rattle.sql_tables.specs.Layouts.{HasRows, account_layout, authorization_layout, challenge_layout, key_layout, listed_layout, nonce_layout, order_layout}
+use Rattle.sql_tables.specs.{Holds.AreRising, Holds.Holds, Images.challenge_image, Images.key_image, Images.order_kept, Sorted.sorted_by}
 use Rattle.sql_tables.proofs.Holding.{accounts_held, authorizations_held, holds_on, meta_held, nonces_held, orders_held}
-use Rattle.sql_tables.proofs.NoIndexes.{keeps_both, kept_at}
-use Rattle.sql_tables.proofs.Sorting.{put_over, sorted_rises}
+use Rattle.sql_tables.proofs.{Keyed.put_ascends, AnswerKeys.keys_apart, NoIndexes.keeps_both, NoIndexes.kept_at, Sorting.put_over, Sorting.sorted_rises}
 
 -- ---- one row
 
@@ -56,9 +40,7 @@ makes_meta part x old new sets T has is_part fits =
 -- nonces that are put or removed
 nonces_become : (old new : Database) (T : Tables) (nonces : List Nonce) → Holds old T → BecomesRows nonce_layout nonces old new
     → AreRising (record T { nonces = nonces }) → Holds new (record T { nonces = nonces })
-nonces_become old new T nonces has p rising =
-    holds_on (1 ∷ []) old new (kept_at 1 old new p.others) T (record T { nonces = nonces }) has p.sound p.has.schema rising
-    refl p.has.rows_are refl refl refl refl refl refl
+nonces_become old new T nonces has p rising = grind arith
 
 -- a nonce
 pub makes_nonce : (part : Tables) (x : Nonce) (old new : Database) → Puts nonce_layout x old new → Makes part (PutNonce x) old new
@@ -82,29 +64,17 @@ makes_account part x old new puts T has is_part fits =
 abbrev Stood : Tables → AuthorizationRow → AuthorizationRow → Type 0
 Stood T x a = find (λ (a : AuthorizationRow). a.number == x.number) T.authorizations ≡ Some a
 
--- kept its challenges
-stood_kept : (T : Tables) (x a : AuthorizationRow) → KeepsChildren T (PutAuthorization x) → Stood T x a → KeepChallenges a.challenges x.challenges
-stood_kept T x a kept found = subst (λ o. IfSome o (λ (a : AuthorizationRow). KeepChallenges a.challenges x.challenges)) found kept
-
 -- the numbers of its challenges are those that come
 pub numbers_within : (T : Tables) (x : AuthorizationRow) → KeepsChildren T (PutAuthorization x) → (a : AuthorizationRow) → Stood T x a
     → AreWithin (map challenge_layout.key (owned_by a.number a.challenges)) (map challenge_layout.key (owned_by x.number x.challenges))
-numbers_within T x kept a found =
-    within_same _ _ (keys_owned a.number a.challenges ∙ (stood_kept T x a kept found).numbers ∙ sym (keys_owned x.number x.challenges))
+numbers_within T x kept a found = search (rules, within_same, keys_owned)
 
 -- the keys of answers that come take the places of those that are there
 keys_put : (T : Tables) (x : AuthorizationRow) → KeepsChildren T (PutAuthorization x)
     → Distinct challenge_layout.key (challenge_rows (put authorization_layout.key x T.authorizations))
     → puts key_layout.key (key_rows (owned_by x.number x.challenges)) (sorted_by key_layout.key (key_rows (challenge_rows T.authorizations)))
     ≡ sorted_by key_layout.key (key_rows (challenge_rows (put authorization_layout.key x T.authorizations)))
-keys_put T x kept apart =
-    let after = put authorization_layout.key x T.authorizations in
-    let own = key_rows (owned_by x.number x.challenges) in
-    let all = subst (Distinct key_layout.key) (keys_flat after) (keys_apart (challenge_rows after) apart) in
-    ap (λ ks. puts key_layout.key own (sorted_by key_layout.key ks)) (keys_flat T.authorizations)
-    ∙ children_put (λ a. a.number) (λ a. key_rows (owned_by a.number a.challenges)) key_layout.key x T.authorizations
-    (λ a found. keys_within a.number x.number a.challenges x.challenges (stood_kept T x a kept found)) all
-    ∙ sym (ap (sorted_by key_layout.key) (keys_flat after))
+keys_put T x kept apart = search (rules, keys_flat, keys_apart, children_put, keys_within)
 
 -- one that is known, of which the table has the columns, stands in its place among rows that the table has, too
 held_with : (db : Database) (rows : List AuthorizationRow) → HasRows authorization_layout db rows → (x : AuthorizationRow) (o : Option AuthorizationRow)
@@ -173,22 +143,7 @@ makes_authorization part x old new sets T has is_part fits =
 -- an order, then what it lists
 makes_order : (part : Tables) (x : OrderRow) (old mid new : Database) → Puts order_layout x old mid → PlacesAll (owned_by x.number x.listed) mid new
     → Makes part (PutOrder x) old new
-makes_order part x old mid new first last T has is_part fits =
-    let p = first T.orders (orders_held old T has) in
-    let kept = kept_at 4 old mid p.others in
-    let between : HasRows listed_layout mid has.listed.numbered =
-    record { schema = p.has.schema; rows_are = kept 6 refl ∙ has.listed.has; rising = has.listed.rising } in
-    let placed = last p.sound has.listed.numbered between in
-    let q = placed.2 in
-    let last = kept_at 6 mid new q.others in
-    holds_on (4 ∷ 6 ∷ []) old new (keeps_both (4 ∷ []) (6 ∷ []) old mid new kept last) T (applied_one (PutOrder x) T) has q.sound q.has.schema
-    fits.rising refl refl refl (last 4 refl ∙ p.has.rows_are) refl (record {
-      numbered = placed.0;
-      has = q.has.rows_are;
-      rising = q.has.rising;
-      same = listed_after x T.orders has.listed.numbered placed.0 has.rising.orders has.listed.rising has.listed.same has.rising.listed fits.rising.listed
-          fits.children placed.1;
-    }) refl refl
+makes_order part x old mid new first last T has is_part fits = search (rules, listed_after)
 
 -- a new order, then what it lists
 makes_new_order : (part : Tables) (x : OrderRow) (old mid new : Database) → Adds order_layout x old mid → AppendsAll (owned_by x.number x.listed)
@@ -250,5 +205,4 @@ pub writes_change : {S R : Type 0} (g : Ghosts S) (part : Tables) (last : Counte
     → (A : Database → Database → Type 0) (a b : Held S) (r : Result R SaveFault)
     → (A (state g a).now (state g b).now → Makes part put (state g a).now (state g b).now) → HasWritten g (statements_of part last put) A a b r
     → HasWritten g (statements_of part last change) (Makes part change) a b r
-writes_change g part last change put is A a b r makes it =
-    subst (λ change. HasWritten g (statements_of part last change) (Makes part change) a b r) (sym is) (written_as g _ A _ a b r makes it)
+writes_change g part last change put is A a b r makes it = grind arith

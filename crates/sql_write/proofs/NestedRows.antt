@@ -1,16 +1,12 @@
 -- Rows of a table of their own that belong to the rows of another: what putting one of those asks of them.
-use Rattle.std.specs.Prelude.{◌==◌, find}
-use Rattle.std.specs.List.{flat_map}
+use Rattle.std.specs.{Prelude.◌==◌, Prelude.find, List.flat_map}
 use Rattle.std.proofs.Common.{◌≡◌, ◌≢◌, inl, inr, ℕ, List, [], ◌∷◌, map, Some, sym, ap, subst, ◌∙◌, arith}
-use Rattle.model_laws.proofs.Basics.{each, each_parts}
-use Rattle.model_laws.proofs.Distinctness.{distinct_parts}
-use Rattle.model_laws.proofs.RowLists.{put_before, put_instead, put_past}
+use Rattle.model_laws.proofs.{Basics.each, Basics.each_parts, Distinctness.distinct_parts, RowLists.put_before, RowLists.put_instead, RowLists.put_past}
 use Rattle.model_laws.specs.{Distinct.Distinct, Placing.puts}
 use Rattle.desk_model.specs.{Change.put, Kept.EachOf}
 use Rattle.sql_write.proofs.Numbered.{AreWithin, find_here, find_later, put_each_within}
 use Rattle.sql_tables.specs.Sorted.{sorted_by}
-use Rattle.sql_tables.proofs.Keyed.{ranked}
-use Rattle.sql_tables.proofs.Sorting.{put_each, put_each_both, puts_each, sorted_append}
+use Rattle.sql_tables.proofs.{Keyed.ranked, Sorting.put_each, Sorting.put_each_both, Sorting.puts_each, Sorting.sorted_append}
 
 module _ {P C : Type 0} (parent : P → ℕ) (children : P → List C) (key : C → ℕ) where
   -- the children of all rows

@@ -1,14 +1,9 @@
 -- Changes fit where no two children of the tables with all of them are one.
-use Rattle.std.specs.Prelude.{◌==◌}
-use Rattle.std.proofs.Common.{◌≡◌, ◌≢◌, ℕ, ◌+◌, ◌<◌, ◌≤◌, ◌++◌, ◌&&◌, List, [], ◌∷◌, Bool, true, false, refl, arith}
-use Rattle.std.proofs.lemmas.Bool.{ne_eqb}
-use Rattle.store_columns.specs.Flat.{listed_rows, owned_by}
-use Rattle.store_columns.specs.declared.columns.Owned.{Owned}
-use Rattle.model_laws.proofs.Basics.{each, each-append, each-map, each_all}
-use Rattle.model_laws.proofs.RowLists.{ascends_above}
+use Rattle.std.proofs.Common.{◌≡◌, ◌≢◌, ℕ, ◌+◌, ◌<◌, ◌≤◌, ◌++◌, List, [], ◌∷◌, false, arith, rules}
+use Rattle.store_columns.specs.{Flat.listed_rows, Flat.owned_by, declared.columns.Owned.Owned}
+use Rattle.model_laws.proofs.{Basics.each, Basics.each-append, Basics.each-map, Basics.each_all, RowLists.ascends_above}
 use Rattle.model_laws.specs.Ordered.{Ascends}
-use Rattle.desk_model.specs.{Kept.EachOf, Change.applied}
-use Rattle.desk_model.specs.declared.rows.{Listed.Listed, OrderRow.OrderRow}
+use Rattle.desk_model.specs.{Kept.EachOf, declared.rows.Listed.Listed, declared.rows.OrderRow.OrderRow}
 use Rattle.sql_write.specs.Fitting.{OrderedChangesFit}
 use Rattle.sql_write.proofs.{ChallengeNumbers.challenges_differ_under, PlacedRows.owners_apart}
 use Rattle.sql_tables.specs.{Effects.is_same_place, Holds.AreApart}
@@ -17,11 +12,7 @@ use Rattle.sql_tables.specs.{Effects.is_same_place, Holds.AreApart}
 
 -- two places of one order
 places_apart : (a b : Owned Listed) → a.row.place ≢ b.row.place → is_same_place a b ≡ false
-places_apart a b apart = none (a.owner == b.owner) (ne_eqb a.row.place b.row.place apart)
-  where
-    none : (c : Bool) {d : Bool} → d ≡ false → (c && d) ≡ false
-    none true is = is
-    none false is = refl
+places_apart a b apart = search rules
 
 -- what an order lists at rising places is apart
 apart_own : (n m : ℕ) (ls : List Listed) → Ascends (λ l. l.place) m ls → AreApart (owned_by n ls)
@@ -58,18 +49,10 @@ apart_joined n m (l ∷ ls) os low up a b = (
 -- what orders that rise list at rising places is apart
 apart_listed : (m : ℕ) (os : List OrderRow) → Ascends (λ o. o.number) m os → EachOf (λ o. Ascends (λ l. l.place) 1 o.listed) os → AreApart (listed_rows os)
 apart_listed m [] up places = tt
-apart_listed m (o ∷ os) up places =
-    apart_joined o.number (o.number + 1) o.listed os (omega arith) up.1 (apart_own o.number 1 o.listed places.0)
-    (apart_listed (o.number + 1) os up.1 places.1)
+apart_listed m (o ∷ os) up places = grind (arith, apart_joined, apart_own, (apart_listed (o.number + 1) os up.1 places.1))
 
 -- ---- tables
 
 -- changes that keep children fit where the tables with all of them stand by number, and their challenges differ
 pub ordered_fit : OrderedChangesFit
-ordered_fit T changes kept stand = record {
-  kept = kept;
-  in_order = record {
-    challenges = challenges_differ_under (applied changes T).authorizations stand.challenges;
-    listed = apart_listed 1 (applied changes T).orders stand.orders stand.places;
-  };
-}
+ordered_fit T changes kept stand = search (rules, challenges_differ_under, apart_listed)

@@ -1,25 +1,19 @@
 -- Rows put over those that are known to stand in their places.
 use Rattle.std.specs.Prelude.{option_map, IfSome}
-use Rattle.std.proofs.Common.{◌≡◌, ◌≢◌, inl, inr, ℕ, ◌++◌, List, [], ◌∷◌, Option, Some, None, Bool, true, false, Result, Ok, refl, sym, ap, subst, ◌∙◌, arith}
-use Rattle.sqlite.specs.{Effect.Database, Order.Row, Store.Ghosts}
+use Rattle.std.proofs.Common.{◌≡◌, ◌≢◌, inl, inr, ℕ, ◌++◌, List, [], ◌∷◌, Option, Some, None, Bool, Result, Ok, refl, sym, ap, subst, ◌∙◌, rules}
+use Rattle.sqlite.specs.{Effect.Database, Order.Row, Store.Ghosts, Held.Held, Held.state}
 use Rattle.sqlite_rules.specs.Lists.{Has}
 use Rattle.store_columns.specs.declared.columns.Owned.{Owned}
-use Rattle.model_laws.proofs.Basics.{each, each_parts}
-use Rattle.model_laws.proofs.Distinctness.{distinct_parts}
 use Rattle.model_laws.proofs.RowLists.{put_before, put_instead, put_past, puts_append}
+use Rattle.model_laws.proofs.{Basics.each, Basics.each_parts, Distinctness.distinct_parts}
 use Rattle.model_laws.specs.{Distinct.Distinct, Placing.puts}
 use Rattle.desk_model.specs.{Change.put, Kept.EachOf}
-use Rattle.sqlite.specs.Held.{Held, state}
 use Rattle.sql_write.proofs.Written.{nothing_written, written_as, written_with}
-use Rattle.sql_write.specs.Makes.{PutsAllOver, PutsOver, Sets, AreFoundUnder, Writes}
-use Rattle.sql_write.specs.{Write.write, Refusals.HasWritten}
-use Rattle.sql_write.specs.Statements.{Sql, of_some}
-use Rattle.sql_write.specs.declared.{fault.SaveFault.SaveFault, stored.Write.Write, stored.Difference.Difference}
-use Rattle.sql_write.specs.declared.stored.Difference.TheVariants.{Same, Moved, Other}
-use Rattle.sql_tables.specs.{Effects.BecomesRows, Sorted.sorted_by}
-use Rattle.sql_tables.specs.Layouts.{HasRows, Layout}
-use Rattle.sql_tables.proofs.Keyed.{put_ascends, ranked}
-use Rattle.sql_tables.proofs.Unmoved.{put_as_it_is}
+use Rattle.sql_write.specs.{Makes.PutsAllOver, Makes.PutsOver, Makes.Sets, Makes.AreFoundUnder, Makes.Writes, Write.write, Refusals.HasWritten, Statements.Sql}
+use Rattle.sql_write.specs.{Statements.of_some, declared.fault.SaveFault.SaveFault, declared.stored.Write.Write, declared.stored.Difference.Difference}
+use Rattle.sql_write.specs.{declared.stored.Difference.TheVariants.Same, declared.stored.Difference.TheVariants.Moved}
+use Rattle.sql_tables.specs.{Sorted.sorted_by, Layouts.HasRows, Layouts.Layout}
+use Rattle.sql_tables.proofs.{Keyed.put_ascends, Keyed.ranked, Unmoved.put_as_it_is}
 
 -- ---- rows that stay
 
@@ -78,23 +72,7 @@ pub record Differs {X : Type 0} (L : Layout X) (kept : X → Row) (diff : X → 
 over_stored : {X : Type 0} (L : Layout X) (kept : X → Row) (diff : X → Difference) (row : X) (new : Bool) (stored : Option X)
     → Differs L kept diff row stored
     → (a b : Database) → Sets L kept (write (option_map diff stored) new) row a b → PutsOver L stored row a b
-over_stored L kept diff row true None differs a b adds = λ sound rows has stands. (adds rows has).1
-over_stored L kept diff row false None differs a b put_it = λ sound rows has stands. put_it rows has
-over_stored L kept diff row new (Some old) differs a b sets = go (diff old) refl sets
-  where
-    go : (d : Difference) → diff old ≡ d → Sets L kept (write (Some d) new) row a b → PutsOver L (Some old) row a b
-    go Same is unmoved = λ sound rows has stands.
-        subst (BecomesRows L (put L.key row rows) a) (sym unmoved) (record {
-          sound = sound;
-          has = record {
-            schema = has.schema;
-            rows_are = has.rows_are ∙ sym (put_as_it_is L row old 0 rows has.rising stands.0 stands.1 (differs.same old refl stands.1 is));
-            rising = put_ascends L.key 0 row rows (omega arith) has.rising;
-          };
-          others = λ t other none. refl;
-        })
-    go Moved is renews = λ sound rows has stands. renews rows has old stands.0 stands.1 (differs.updates old refl is)
-    go Other is put_it = λ sound rows has stands. put_it rows has
+over_stored L kept diff row new stored h a b k = search (rules, put_as_it_is, put_ascends)
 
 -- ---- several rows
 
@@ -161,16 +139,13 @@ module _ {S : Type 0} (g : Ghosts S) {X : Type 0} {L : Layout X} {kept : X → R
 -- a difference of what is known is not of its owner
 pub differs_under : {T D : Type 0} (n : ℕ) (diff : T → D) (o : Option T)
     → option_map (λ (x : Owned T). diff x.row) (option_map (λ t. record { owner = n; row = t }) o) ≡ option_map diff o
-differs_under n diff None = refl
-differs_under n diff (Some t) = refl
+differs_under n diff o = search rules
 
 -- the owner is this one
 pub owner_is : {T : Type 0} (n : ℕ) (o : Option T) (x : Owned T) → option_map (λ t. record { owner = n; row = t }) o ≡ Some x → x.owner ≡ n
-owner_is n None x is = absurd (cc is)
-owner_is {T} n (Some t) x is = let same : record { owner = n; row = t } ≡ x = cc is in sym (ap (λ (y : Owned T). y.owner) same)
+owner_is n o x h = search rules
 
 -- nor of what stands beside it
 pub differs_beside : {F T D : Type 0} (f : F) (diff : T → D) (o : Option T) → option_map (λ (x : F × T). diff x.1) (option_map (λ t. (f, t)) o) ≡ option_map
     diff o
-differs_beside f diff None = refl
-differs_beside f diff (Some t) = refl
+differs_beside f diff o = search rules

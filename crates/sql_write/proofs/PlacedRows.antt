@@ -1,22 +1,16 @@
 -- Rows under hidden numbers, told apart by order and place.
-use Rattle.std.specs.Prelude.{◌==◌}
-use Rattle.std.specs.{List.AllByRecursion, List.Sorted.IsPermutation}
-use Rattle.std.proofs.Common.{◌≡◌, ◌≢◌, ◌⊎◌, inl, inr, ℕ, ◌+◌, ◌<◌, ◌≤◌, ◌++◌, List, [], ◌∷◌, map, fold, Bool, true, false, ◌&&◌}
-use Rattle.std.proofs.Common.{refl, sym, ap, subst, ◌∙◌, arith, append-nil}
-use Rattle.std.proofs.lemmas.Bool.{eq-eqb, ne_eqb}
-use Rattle.std.proofs.lemmas.List.{append_assoc, map-append}
-use Rattle.std.proofs.lemmas.List.Elements.{All-from_recursion, recursion_from_All}
-use Rattle.std.proofs.lemmas.List.Sorted.{All-permutation, IsPermutation-sym}
+use Rattle.std.specs.{Prelude.◌==◌, List.AllByRecursion, List.Sorted.IsPermutation}
+use Rattle.std.proofs.Common.{◌≡◌, ◌≢◌, ◌⊎◌, inl, inr, ℕ, ◌+◌, ◌<◌, ◌≤◌, ◌++◌, List, [], ◌∷◌, map, fold, Bool, true, false, ◌&&◌, refl, sym, ap, subst, ◌∙◌}
+use Rattle.std.proofs.Common.{arith, append-nil}
+use Rattle.std.proofs.lemmas.{Bool.ne_eqb, List.append_assoc, List.map-append, List.Elements.All-from_recursion, List.Elements.recursion_from_All}
+use Rattle.std.proofs.lemmas.{List.Sorted.All-permutation, List.Sorted.IsPermutation-sym}
 use Rattle.sqlite_rules.specs.Lists.{Has}
 use Rattle.store_columns.specs.declared.columns.Owned.{Owned}
-use Rattle.model_laws.proofs.Basics.{eq_turn}
-use Rattle.model_laws.proofs.RowLists.{ascends_above, ascends_from, put_instead, put_past, puts_last}
+use Rattle.model_laws.proofs.{Basics.eq_turn, RowLists.ascends_above, RowLists.ascends_from, RowLists.put_instead, RowLists.put_past, RowLists.puts_last}
 use Rattle.model_laws.specs.Ordered.{Ascends, Below}
-use Rattle.desk_model.specs.{Change.put, Kept.EachOf}
-use Rattle.desk_model.specs.declared.rows.Listed.{Listed}
+use Rattle.desk_model.specs.{Change.put, Kept.EachOf, declared.rows.Listed.Listed}
 use Rattle.sql_write.specs.Makes.{ArePlaced, appended}
-use Rattle.sql_tables.specs.{Effects.is_same_place, Holds.AreApart, Layouts.IsRising}
-use Rattle.sql_tables.specs.Hidden.{IsPlaced, next, number, row_of}
+use Rattle.sql_tables.specs.{Effects.is_same_place, Holds.AreApart, Layouts.IsRising, Hidden.IsPlaced, Hidden.next, Hidden.number, Hidden.row_of}
 use Rattle.sql_tables.proofs.{Keyed.put_ascends, HiddenUpsert.has_map}
 
 -- ---- members of lists
@@ -63,10 +57,7 @@ has_right (z ∷ zs) ys x h = inr (has_right zs ys x h)
 pub has_parts : {X : Type 0} (xs ys : List X) (x : X) → Has (xs ++ ys) x → Has xs x ⊎ Has ys x
 has_parts [] ys x h = inr h
 has_parts (z ∷ zs) ys x (inl here) = inl (inl here)
-has_parts (z ∷ zs) ys x (inr there) = elim (has_parts zs ys x there) [
-  | inl l ↦ inl (inr l)
-  | inr r ↦ inr r
-]
+has_parts (z ∷ zs) ys x (inr there) = grind (arith, (has_parts zs ys x there))
 
 -- what a mapped list has is the image of an item
 pub image_of : {X Y : Type 0} (f : X → Y) (xs : List X) (y : Y) → Has (map f xs) y → (x : X) × Has xs x × (y ≡ f x)
@@ -75,10 +66,6 @@ image_of f (x ∷ xs) y (inl here) = (x, inl refl, here)
 image_of f (x ∷ xs) y (inr there) = let it = image_of f xs y there in (it.0, inr it.1, it.2)
 
 -- ---- places
-
--- a place is its own
-same_self : (l : Owned Listed) → is_same_place l l ≡ true
-same_self l = λ i. eq-eqb l.owner l.owner refl i && eq-eqb l.row.place l.row.place refl i
 
 -- from either side
 same_turn : (a b : Owned Listed) → is_same_place a b ≡ is_same_place b a
@@ -139,9 +126,7 @@ stays_one L l ts after up same apart in_it (inl found) =
     let there : Has L t.1 = has_through L (map row_of ts) t.1 (IsPermutation-sym (map row_of ts) L same) (has_map row_of ts t found.1) in
     let is : l ≡ t.1 = one_place L l t.1 apart in_it there found.2 in
     found.3 ∙ ap (λ k. put number (t.0, k) ts) is ∙ put_there 0 t ts up found.1
-stays_one L l ts after up same apart in_it (inr fresh) =
-    let at = image_of row_of ts l (has_through (map row_of ts) L l same in_it) in
-    true_false (is_same_place l at.0.1) (ap (λ k. is_same_place l k) (sym at.2) ∙ same_self l) (fresh.0 at.0 at.1)
+stays_one L l ts after up same apart in_it (inr fresh) = grind (arith, image_of, (has_through (map row_of ts) L l same in_it))
 
 -- and so do several
 pub stays : (L ls : List (Owned Listed)) (ts after : List (ℕ × Owned Listed)) → IsRising number ts → IsPermutation (map row_of ts) L → AreApart L

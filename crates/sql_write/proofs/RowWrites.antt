@@ -1,30 +1,22 @@
 -- What a call wrote of a row, by the texts of its table.
-use Rattle.std.proofs.Common.{◌≡◌, Result, Err}
-use Rattle.sqlite.specs.{Effect.Database, Order.Row, Store.Ghosts}
-use Rattle.sqlite.specs.Held.{Held}
-use Rattle.store_columns.specs.Columns.{account_columns, authorization_columns, challenge_columns, order_columns}
-use Rattle.store_columns.specs.Flat.{bare_row}
-use Rattle.sql_write.specs.Makes.{AddsOrPuts, AppendsOrPlaces, RenewsOrPuts, Writes}
-use Rattle.sql_write.specs.Refusals.{HasWritten, IsRun}
+use Rattle.std.proofs.Common.{◌≡◌, Result, Err, rules}
+use Rattle.sqlite.specs.{Effect.Database, Order.Row, Store.Ghosts, Held.Held}
+use Rattle.store_columns.specs.{Columns.account_columns, Columns.authorization_columns, Columns.challenge_columns, Columns.order_columns, Flat.bare_row}
 use Rattle.sql_write.specs.Statements.{RowWriting, account_writing, authorization_writing, challenge_writing, key_writing, listed_writing, meta_writing}
 use Rattle.sql_write.specs.Statements.{nonce_writing, order_writing, sql_by, writes}
-use Rattle.sql_write.specs.declared.fault.SaveFault.{SaveFault}
+use Rattle.sql_write.specs.{Makes.AddsOrPuts, Makes.AppendsOrPlaces, Makes.RenewsOrPuts, Makes.Writes, Refusals.HasWritten, Refusals.IsRun}
+use Rattle.sql_write.specs.{declared.fault.SaveFault.SaveFault, declared.fault.WriteFault.WriteFault, declared.stored.Write.Write}
+use Rattle.sql_write.specs.{declared.stored.Write.TheVariants.Upsert, declared.stored.Write.TheVariants.Insert, declared.stored.Write.TheVariants.Update}
 use Rattle.sql_write.specs.declared.fault.SaveFault.TheVariants as save
-use Rattle.sql_write.specs.declared.{fault.WriteFault.WriteFault, stored.Write.Write}
-use Rattle.sql_write.specs.declared.stored.Write.TheVariants.{Upsert, Insert, Update}
 use Rattle.sql_write.proofs.Written.{none_written, run_written}
-use Rattle.sql_tables.specs.Images.{account_kept, authorization_kept}
-use Rattle.sql_tables.specs.Images.{challenge_kept, formatted_columns, meta_kept}
-use Rattle.sql_tables.specs.Images.{order_kept}
+use Rattle.sql_tables.specs.Images.{account_kept, authorization_kept, challenge_kept, formatted_columns, meta_kept, order_kept}
 use Rattle.sql_tables.specs.Layouts.{Layout, account_layout, authorization_layout, challenge_layout, formatted_layout, key_layout, nonce_layout, order_layout}
-use Rattle.sql_tables.proofs.Inserts.{Carries}
-use Rattle.sql_tables.proofs.InsertStatement.{IsInsert, advances_inserted}
-use Rattle.sql_tables.proofs.ListedUpsert.{advances_appended, advances_listed}
-use Rattle.sql_tables.proofs.UpdateStatement.{IsUpdate, advances_renewed}
-use Rattle.sql_tables.proofs.UpsertStatement.{IsUpsert, advances_by}
 use Rattle.sql_tables.proofs.Upserts.{account_insert, account_update, account_upsert, authorization_insert, authorization_update, authorization_upsert}
-use Rattle.sql_tables.proofs.Upserts.{challenge_insert, challenge_update, challenge_upsert, key_insert, key_upsert, meta_update, meta_upsert}
-use Rattle.sql_tables.proofs.Upserts.{nonce_insert, nonce_upsert, order_insert, order_update, order_upsert}
+use Rattle.sql_tables.proofs.Upserts.{challenge_insert, challenge_update, challenge_upsert, key_insert, key_upsert, meta_update, meta_upsert, nonce_insert}
+use Rattle.sql_tables.proofs.Upserts.{nonce_upsert, order_insert, order_update, order_upsert}
+use Rattle.sql_tables.proofs.{Inserts.Carries, InsertStatement.IsInsert, InsertStatement.advances_inserted, ListedUpsert.advances_appended}
+use Rattle.sql_tables.proofs.{ListedUpsert.advances_listed, UpdateStatement.IsUpdate, UpdateStatement.advances_renewed, UpsertStatement.IsUpsert}
+use Rattle.sql_tables.proofs.{UpsertStatement.advances_by}
 
 -- the texts by which rows of a table are put, inserted and renewed do this
 pub record AreTexts {X : Type 0} (rows : RowWriting X) (Does : Write → X → Database → Database → Type 0) : Type 1 where
@@ -51,25 +43,13 @@ module _ {S : Type 0} (g : Ghosts S) {X : Type 0} {rows : RowWriting X} {Does : 
 -- one that has all three texts, by what they mean
 texts_by : {X : Type 0} (L : Layout X) (rows : RowWriting X) (kept : X → Row) (puts : IsUpsert L rows.all rows.texts.1.now)
     → IsInsert L puts rows.texts.0.now → IsUpdate L puts rows.updates kept rows.texts.2.now → AreTexts rows (Writes L kept)
-texts_by L rows kept puts adds renews = record {
-  puts = advances_by L rows.all _ puts;
-  adds = advances_inserted L rows.all puts _ adds;
-  renews = advances_renewed L rows.all puts rows.updates kept _ renews;
-}
+texts_by L rows kept puts adds renews = search (rules, advances_by, advances_inserted, advances_renewed)
 
 pub meta_texts : AreTexts meta_writing (RenewsOrPuts formatted_layout (λ x. meta_kept (formatted_columns x)))
-meta_texts = record {
-  puts = advances_by formatted_layout _ _ meta_upsert;
-  adds = advances_by formatted_layout _ _ meta_upsert;
-  renews = advances_renewed formatted_layout _ meta_upsert _ _ _ meta_update;
-}
+meta_texts = search (rules, advances_by, meta_upsert, advances_renewed, meta_update)
 
 pub nonce_texts : AreTexts nonce_writing (AddsOrPuts nonce_layout)
-nonce_texts = record {
-  puts = advances_by nonce_layout _ _ nonce_upsert;
-  adds = advances_inserted nonce_layout _ nonce_upsert _ nonce_insert;
-  renews = advances_by nonce_layout _ _ nonce_upsert;
-}
+nonce_texts = search (rules, advances_by, nonce_upsert, advances_inserted, nonce_insert)
 
 pub account_texts : AreTexts account_writing (Writes account_layout (λ x. account_kept (account_columns x)))
 account_texts = texts_by account_layout account_writing _ account_upsert account_insert account_update
@@ -84,11 +64,7 @@ pub listed_texts : AreTexts listed_writing AppendsOrPlaces
 listed_texts = record { puts = advances_listed; adds = advances_appended; renews = advances_listed }
 
 pub key_texts : AreTexts key_writing (AddsOrPuts key_layout)
-key_texts = record {
-  puts = advances_by key_layout _ _ key_upsert;
-  adds = advances_inserted key_layout _ key_upsert _ key_insert;
-  renews = advances_by key_layout _ _ key_upsert;
-}
+key_texts = search (rules, advances_by, key_upsert, advances_inserted, key_insert)
 
 pub challenge_texts : AreTexts challenge_writing (Writes challenge_layout (λ c. challenge_kept (challenge_columns (bare_row c))))
 challenge_texts = texts_by challenge_layout challenge_writing _ challenge_upsert challenge_insert challenge_update

@@ -1,66 +1,42 @@
 -- Rows of one table, and changes, made one after the other inside a transaction.
-use Rattle.std.proofs.Common.{zero, suc, arith, ◌≡◌, ◌≢◌, ℕ, ◌+◌, ◌<◌, ◌++◌, List, [], ◌∷◌, Option, Some, None, take, drop, get_or}
-use Rattle.std.proofs.Common.{length, refl, sym, ap, subst, ◌∙◌, add-one, append-nil}
-use Rattle.std.specs.List.{cons_option}
-use Rattle.std.specs.Prelude.{option_map, option_to_list}
-use Rattle.std.proofs.{Math.Seq.take-suc, lemmas.List.Elements.filter_map-append}
+use Rattle.std.proofs.Common.{zero, suc, arith, ◌≡◌, ◌≢◌, ℕ, ◌+◌, ◌<◌, ◌++◌, List, [], ◌∷◌, Option, take, drop, get_or, length, refl, sym, ap, subst, ◌∙◌}
+use Rattle.std.proofs.Common.{add-one, append-nil, rules}
 use Rattle.std.proofs.lemmas.List.{append_assoc, map-append, take-append-drop}
+use Rattle.std.proofs.{Math.Seq.take-suc, lemmas.List.Elements.filter_map-append}
+use Rattle.std.specs.Prelude.{option_to_list}
 use Rattle.sqlite.specs.{Effect.Database, Order.Row}
-use Rattle.store_columns.specs.Flat.{answer_key, key_rows, owned_by}
-use Rattle.store_columns.specs.declared.columns.{AnswerKey.AnswerKey, Owned.Owned}
-use Rattle.desk_model.specs.Change.{applied, applied_one, put}
-use Rattle.desk_model.specs.{Kept.EachOf, Tables.Tables}
-use Rattle.desk_model.specs.declared.rows.{ChallengeRow.ChallengeRow, Change.Change, Counters.Counters, Listed.Listed}
-use Rattle.sql_write.specs.Fitting.{AreFit, IsFit}
-use Rattle.model_laws.specs.Placing.{puts}
-use Rattle.sql_write.specs.Makes.{AddsOrPuts, AppendsAll, AppendsOrPlaces, ArePlaced, Makes, MakesAll, PlacesAll, PutsAll, PutsAllOver, PutsOver}
-use Rattle.sql_write.specs.Makes.{RenewsOrPuts, Writes, WritesListed, appended}
-use Rattle.sql_write.specs.Statements.{save_statements, statements_from, statements_of}
-use Rattle.sql_write.specs.declared.stored.Write.{Write}
-use Rattle.sql_write.specs.declared.stored.Write.TheVariants.{Upsert, Insert, Update}
+use Rattle.store_columns.specs.{Flat.answer_key, Flat.key_rows, Flat.owned_by, declared.columns.AnswerKey.AnswerKey, declared.columns.Owned.Owned}
+use Rattle.desk_model.specs.{Change.applied, Change.applied_one, Change.put, Kept.EachOf, Tables.Tables, declared.rows.ChallengeRow.ChallengeRow}
+use Rattle.desk_model.specs.{declared.rows.Change.Change, declared.rows.Counters.Counters, declared.rows.Listed.Listed}
+use Rattle.sql_write.specs.Makes.{AddsOrPuts, AppendsAll, AppendsOrPlaces, ArePlaced, Makes, MakesAll, PlacesAll, PutsAll, PutsAllOver, PutsOver, RenewsOrPuts}
+use Rattle.sql_write.specs.Makes.{Writes, WritesListed, appended}
+use Rattle.sql_write.specs.{Fitting.AreFit, Fitting.IsFit, Statements.save_statements, Statements.statements_from, Statements.statements_of}
+use Rattle.sql_write.specs.declared.{stored.Write.Write, stored.Write.TheVariants.Upsert, stored.Write.TheVariants.Insert, stored.Write.TheVariants.Update}
 use Rattle.model_laws.proofs.{RowLists.puts_append, Recorded.applied-append}
-use Rattle.sql_write.proofs.Over.{over_both, over_none, over_one}
-use Rattle.sql_write.proofs.Written.{Turns}
-use Rattle.sql_write.proofs.StoredRows.{part_after}
+use Rattle.sql_write.proofs.{Over.over_both, Over.over_none, Over.over_one, Written.Turns, StoredRows.part_after}
 use Rattle.sql_tables.specs.Effects.{Appends, Places, Puts, is_same_place}
-use Rattle.sql_tables.specs.Hidden.{IsPlaced, next, number}
-use Rattle.sql_tables.specs.Holds.{Holds}
-use Rattle.sql_tables.specs.Layouts.{HasRows, Layout, key_layout, listed_layout}
-use Rattle.sql_tables.proofs.InsertStatement.{added_puts}
+use Rattle.sql_tables.specs.{Hidden.IsPlaced, Hidden.next, Hidden.number, Layouts.Layout, Layouts.key_layout}
 
 -- ---- one row
 
 -- one that may be added is put
 pub puts_added : {X : Type 0} (L : Layout X) (row : X) (write : Write) (a b : Database) → AddsOrPuts L write row a b → Puts L row a b
-puts_added L row Insert a b does = added_puts L row a b does
-puts_added L row Upsert a b does = does
-puts_added L row Update a b does = does
+puts_added L row write a b h = grind arith
 
 -- which keeps nothing where it is renewed
 pub writes_added : {X : Type 0} (L : Layout X) (row : X) (write : Write) (a b : Database) → AddsOrPuts L write row a b → Writes L (λ _. []) write row a b
-writes_added L row Insert a b does = does
-writes_added L row Upsert a b does = does
-writes_added L row Update a b does = λ rows has there in_it same kept. does rows has
+writes_added L row write a b h = search rules
 
 -- one that may be renewed is, where it is not new
 pub writes_renewed : {X : Type 0} (L : Layout X) (kept : X → Row) (row : X) (write : Write) (a b : Database) → write ≢ Insert
     → RenewsOrPuts L kept write row a b → Writes L kept write row a b
-writes_renewed L kept row Upsert a b old does = does
-writes_renewed L kept row Update a b old does = does
-writes_renewed L kept row Insert a b old does = absurd (old refl)
+writes_renewed L kept row write a b h k = search rules
 
 -- ---- several rows
 
 -- one more
 one_more_put : {X : Type 0} (L : Layout X) (ys : List X) (y : X) (a b c : Database) → PutsAll L ys a b → Puts L y b c → PutsAll L (ys ++ y ∷ []) a c
-one_more_put L ys y a b c before last sound rows has =
-    let one = before sound rows has in
-    let two = last (puts L.key ys rows) one.has in
-    record {
-      sound = two.sound;
-      has = subst (HasRows L c) (sym (puts_append L.key ys (y ∷ []) rows)) two.has;
-      others = λ t other none. two.others t other none ∙ one.others t other none;
-    }
+one_more_put L ys y a b c before last sound rows has = search (rules, puts_append)
 
 -- what holds of all rows of an owner holds of the one at a place
 pub each_owned : {X : Type 0} (P : Owned X → Type 0) (n : ℕ) (xs : List X) (i : ℕ) (d : X) → i < length xs → EachOf P (owned_by n xs)
@@ -71,10 +47,7 @@ each_owned P n (x ∷ xs) (suc i) d low all = each_owned P n xs i d (omega (arit
 
 -- rows that are put
 pub put_turns : {X : Type 0} (L : Layout X) → Turns (PutsAll L) (Puts L)
-put_turns L = record {
-  none = λ a sound rows has. record { sound = sound; has = has; others = λ t other none. refl };
-  more = one_more_put L;
-}
+put_turns L = search (rules, one_more_put)
 
 -- rows of an owner, over those that are known
 pub over_turns : {T : Type 0} (L : Layout (Owned T)) (stored : Owned T → Option (Owned T)) (n : ℕ) → Turns (λ xs. PutsAllOver L stored (owned_by n xs))
@@ -89,15 +62,7 @@ over_turns {T} L stored n = record {
 -- the keys of one more
 keys_snoc : (n : ℕ) (xs : List ChallengeRow) (x : ChallengeRow)
     → key_rows (owned_by n (xs ++ x ∷ [])) ≡ key_rows (owned_by n xs) ++ option_to_list (answer_key x)
-keys_snoc n xs x =
-    let row : Owned ChallengeRow = record { owner = n; row = x } in
-    ap key_rows (map-append _ xs (x ∷ []))
-    ∙ filter_map-append (λ (c : Owned ChallengeRow). answer_key c.row) (owned_by n xs) (row ∷ [])
-    ∙ ap (λ ks. key_rows (owned_by n xs) ++ ks) (alone (answer_key x))
-  where
-    alone : (o : Option AnswerKey) → cons_option o [] ≡ option_to_list o
-    alone None = refl
-    alone (Some k) = refl
+keys_snoc n xs x = search (rules, map-append, filter_map-append)
 
 -- the keys of the answers of challenges, over those that are known
 pub keys_turns : (stored : AnswerKey → Option AnswerKey) (n : ℕ) → Turns (λ xs. PutsAllOver key_layout stored (key_rows (owned_by n xs)))
@@ -141,14 +106,7 @@ appended_snoc (k ∷ ks) l before = appended_snoc ks l (put number (next before,
 
 -- one more
 one_more_appended : (ls : List (Owned Listed)) (l : Owned Listed) (a b c : Database) → AppendsAll ls a b → Appends l b c → AppendsAll (ls ++ l ∷ []) a c
-one_more_appended ls l a b c first last sound before has =
-    let one = first sound before has in
-    let two = last (appended ls before) one.has in
-    record {
-      sound = two.sound;
-      has = subst (HasRows listed_layout c) (sym (appended_snoc ls l before)) two.has;
-      others = λ t other none. two.others t other none ∙ one.others t other none;
-    }
+one_more_appended ls l a b c first last sound before has = search (rules, appended_snoc)
 
 -- rows of an order
 pub listed_turns : (write : Write) (n : ℕ) → Turns (λ xs. WritesListed write (owned_by n xs)) (λ x. AppendsOrPlaces write (record { owner = n; row = x }))
@@ -159,9 +117,7 @@ listed_turns write n = record {
 }
   where
     none : (m : Write) (a : Database) → WritesListed m [] a a
-    none Insert a = λ sound before has. record { sound = sound; has = has; others = λ t other none. refl }
-    none Upsert a = λ sound before has. (before, refl, record { sound = sound; has = has; others = λ t other none. refl })
-    none Update a = λ sound before has. (before, refl, record { sound = sound; has = has; others = λ t other none. refl })
+    none h k = grind arith
 
     more : (m : Write) (ls : List (Owned Listed)) (l : Owned Listed) (a b c : Database) → WritesListed m ls a b → AppendsOrPlaces m l b c
         → WritesListed m (ls ++ l ∷ []) a c
@@ -179,16 +135,12 @@ fit_snoc (d ∷ ds) c T h = let rest = fit_snoc ds c (applied_one d T) h.1 in ((
 -- one more
 one_more_made : (part : Tables) (cs : List Change) (c : Change) (a b d : Database) → MakesAll part cs a b → Makes (applied cs part) c b d
     → MakesAll part (cs ++ c ∷ []) a d
-one_more_made part cs c a b d before last T has stands fits =
-    let parts = fit_snoc cs c T fits in
-    subst (Holds d) (sym (applied-append cs (c ∷ []) T)) (last (applied cs T) (before T has stands parts.0) (part_after cs part T stands) parts.1)
+one_more_made part cs c a b d before last T has stands fits = search (rules, fit_snoc, applied-append, part_after)
 
 -- one more change
 pub made_more : (part : Tables) (cs : List Change) (i : ℕ) (d : Change) (a b c : Database) → i < length cs → MakesAll part (take i cs) a b
     → Makes (applied (take i cs) part) (get_or cs i d) b c → MakesAll part (take (i + 1) cs) a c
-made_more part cs i d a b c low before last =
-    subst (λ all. MakesAll part all a c) (sym (ap (λ k. take k cs) (add-one i) ∙ take-suc cs i d low))
-    (one_more_made part (take i cs) (get_or cs i d) a b c before last)
+made_more part cs i d a b c low before last = grind (arith, take-suc, (add-one i), (one_more_made part (take i cs) (get_or cs i d) a b c before last))
 
 -- ---- the statements of changes
 
@@ -196,9 +148,7 @@ made_more part cs i d a b c low before last =
 from_append : (last : Counters) (xs ys : List Change) (part : Tables)
     → statements_from last part (xs ++ ys) ≡ statements_from last part xs ++ statements_from last (applied xs part) ys
 from_append last [] ys part = refl
-from_append last (x ∷ xs) ys part =
-    ap (λ all. statements_of part last x ++ all) (from_append last xs ys (applied_one x part))
-    ∙ sym (append_assoc (statements_of part last x) (statements_from last (applied_one x part) xs) (statements_from last (applied (x ∷ xs) part) ys))
+from_append last (x ∷ xs) ys part = grind (arith, append_assoc, (from_append last xs ys (applied_one x part)))
 
 -- of one more
 pub from_more : (last : Counters) (cs : List Change) (i : ℕ) (d : Change) (part : Tables) → i < length cs
@@ -214,10 +164,7 @@ from_more last cs i d part low =
 pub from_begins : (last : Counters) (cs : List Change) (i : ℕ) (d : Change) (part : Tables) → i < length cs
     → (statements_from last part (take i cs) ++ statements_of (applied (take i cs) part) last (get_or cs i d))
     ++ statements_from last (applied (take (i + 1) cs) part) (drop (i + 1) cs) ≡ statements_from last part cs
-from_begins last cs i d part low =
-    ap (λ all. all ++ statements_from last (applied (take (i + 1) cs) part) (drop (i + 1) cs)) (sym (from_more last cs i d part low))
-    ∙ sym (from_append last (take (i + 1) cs) (drop (i + 1) cs) part)
-    ∙ ap (statements_from last part) (take-append-drop (i + 1) cs)
+from_begins last cs i d part low = grind (arith, take-append-drop, (from_more last cs i d part low), (from_append last (take (i + 1) cs) (drop (i + 1) cs) part), (take-append-drop (i + 1) cs))
 
 -- by the last numbers that are known they are those of a save
 pub of_save : (part : Tables) (changes : List Change) → statements_from part.meta.counters part changes ≡ save_statements part changes

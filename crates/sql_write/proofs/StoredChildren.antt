@@ -1,7 +1,6 @@
 -- The challenges of a known authorization, and the keys of their answers, stand in their tables.
 use Rattle.std.specs.Prelude.{option_and_then, option_map, IfSome}
-use Rattle.std.specs.List.{cons_option}
-use Rattle.std.proofs.Common.{◌≡◌, inl, inr, ℕ, List, [], ◌∷◌, Option, Some, None, refl, sym, ap, subst, ◌∙◌}
+use Rattle.std.proofs.Common.{◌≡◌, inl, inr, ℕ, List, [], ◌∷◌, Option, Some, None, refl, subst, ◌∙◌, arith}
 use Rattle.sqlite_rules.specs.Lists.{Has}
 use Rattle.store_columns.specs.Flat.{answer_key, challenge_rows, key_rows, owned_by}
 use Rattle.store_columns.specs.declared.columns.{AnswerKey.AnswerKey, Owned.Owned}
@@ -9,12 +8,9 @@ use Rattle.model_laws.proofs.Basics.{each-map, each_all}
 use Rattle.model_laws.specs.Distinct.{Distinct}
 use Rattle.desk_model.specs.Kept.{EachOf}
 use Rattle.desk_model.specs.declared.{objects.Answer.Answer, rows.AuthorizationRow.AuthorizationRow, rows.ChallengeRow.ChallengeRow}
-use Rattle.sql_write.specs.Makes.{AreFoundUnder, challenge_under, key_under}
-use Rattle.sql_write.specs.Stored.{stored_challenge}
-use Rattle.sql_write.proofs.{Over.has_sorted, StoredRows.found_has}
-use Rattle.sql_write.proofs.PlacedRows.{each_at, has_left, has_right}
-use Rattle.sql_tables.specs.Layouts.{challenge_layout, key_layout}
-use Rattle.sql_tables.specs.Sorted.{sorted_by}
+use Rattle.sql_write.specs.{Makes.AreFoundUnder, Makes.challenge_under, Makes.key_under, Stored.stored_challenge}
+use Rattle.sql_write.proofs.{Over.has_sorted, StoredRows.found_has, PlacedRows.each_at, PlacedRows.has_left, PlacedRows.has_right}
+use Rattle.sql_tables.specs.{Layouts.challenge_layout, Layouts.key_layout, Sorted.sorted_by}
 use Rattle.sql_tables.proofs.{AnswerKeys.keys_apart, HiddenUpsert.has_map}
 
 -- the row of this number stands among these, with these challenges and maybe more
@@ -29,23 +25,14 @@ under n c = record { owner = n; row = c }
 among_all : (rows : List AuthorizationRow) (a : AuthorizationRow) (c : ChallengeRow) → Has rows a → Has a.challenges c
     → Has (challenge_rows rows) (under a.number c)
 among_all [] a c h own = absurd h
-among_all (b ∷ bs) a c (inl here) own =
-    has_left (owned_by b.number b.challenges) (challenge_rows bs) (under a.number c)
-    (subst (λ (r : AuthorizationRow). Has (owned_by r.number r.challenges) (under a.number c)) here (has_map (under a.number) a.challenges c own))
-among_all (b ∷ bs) a c (inr there) own =
-    has_right (owned_by b.number b.challenges) (challenge_rows bs) (under a.number c) (among_all bs a c there own)
+among_all (b ∷ bs) a c (inl here) own = grind (arith, has_left, (has_map (under a.number) a.challenges c own))
+among_all (b ∷ bs) a c (inr there) own = grind (arith, has_right, (among_all bs a c there own))
 
 -- so is the key of its answer
 key_among : (cs : List (Owned ChallengeRow)) (c : Owned ChallengeRow) (k : AnswerKey) → Has cs c → answer_key c.row ≡ Some k → Has (key_rows cs) k
 key_among [] c k h is = absurd h
-key_among (d ∷ ds) c k (inl here) is =
-    let key : answer_key d.row ≡ Some k = ap (λ (o : Owned ChallengeRow). answer_key o.row) (sym here) ∙ is in
-    subst (λ o. Has (cons_option o (key_rows ds)) k) (sym key) (inl refl)
-key_among (d ∷ ds) c k (inr there) is = behind (answer_key d.row) (key_among ds c k there is)
-  where
-    behind : (o : Option AnswerKey) → Has (key_rows ds) k → Has (cons_option o (key_rows ds)) k
-    behind None h = h
-    behind (Some j) h = inr h
+key_among (d ∷ ds) c k (inl here) is = grind arith
+key_among (d ∷ ds) c k (inr there) is = grind (arith, (key_among ds c k there is))
 
 -- a challenge that is known
 stored_is : (n : ℕ) (rows : List AuthorizationRow) (stored : Option AuthorizationRow) → IfSome stored (IsThere rows n) → (k : ℕ) (c : ChallengeRow)
@@ -66,14 +53,7 @@ challenges_stand stored n cs rows apart there = each-map _ (under n) cs (each_al
     sorted = sorted_by challenge_layout.key (challenge_rows rows)
 
     one : (c : ChallengeRow) → IfSome (challenge_under stored (under n c)) (λ y. Has sorted y × (challenge_layout.key y ≡ challenge_layout.key (under n c)))
-    one c = go (stored_challenge stored c.number) refl
-      where
-        go : (o : Option ChallengeRow) → stored_challenge stored c.number ≡ o
-            → IfSome (option_map (under n) o) (λ y. Has sorted y × (challenge_layout.key y ≡ challenge_layout.key (under n c)))
-        go None is = tt
-        go (Some d) is =
-            let it = stored_is n rows stored there c.number d is in
-            (has_sorted challenge_layout.key (challenge_rows rows) (under n d) apart it.0, it.1)
+    one c = grind (arith, stored_is, has_sorted)
 
 -- and what is known of the keys of their answers
 pub keys_stand : (stored : Option AuthorizationRow) (n : ℕ) (cs : List ChallengeRow) (rows : List AuthorizationRow)

@@ -1,23 +1,16 @@
 -- What is known to stand in the tables, behind changes.
-use Rattle.std.specs.{Bool.then_some, Option.option_or}
-use Rattle.std.specs.Prelude.{find, cond, option_copied, IfSome, ◌==◌}
-use Rattle.std.proofs.Common.{◌≡◌, ◌≢◌, inl, inr, ℕ, ◌+◌, ◌<◌, ◌≤◌, ◌++◌, List, [], ◌∷◌, Option, Some, None, Bool, true, false, Bor, refl, sym, ap, subst}
-use Rattle.std.proofs.Common.{◌∙◌, arith, add-one, get_or, length, take}
-use Rattle.std.proofs.Math.Seq.{take-suc}
-use Rattle.std.proofs.lemmas.Bool.{eqb-true, ne_eqb}
+use Rattle.std.specs.{Bool.then_some, Option.option_or, Prelude.find, Prelude.cond, Prelude.option_copied, Prelude.IfSome, Prelude.◌==◌}
+use Rattle.std.proofs.Common.{◌≡◌, ◌≢◌, inl, inr, ℕ, ◌+◌, ◌<◌, ◌≤◌, ◌++◌, List, [], ◌∷◌, Option, Some, None, Bool, true, false, Bor, refl, sym, ap, subst, ◌∙◌}
+use Rattle.std.proofs.Common.{arith, add-one, get_or, length, take, rules}
+use Rattle.std.proofs.{Math.Seq.take-suc, lemmas.Bool.eqb-true, lemmas.Bool.ne_eqb}
 use Rattle.sqlite_rules.specs.Lists.{Has}
-use Rattle.model_laws.proofs.RowLists.{put_before, put_instead, put_past}
-use Rattle.model_laws.proofs.Basics.{each, each-append}
-use Rattle.model_laws.proofs.Recorded.{applied-append}
-use Rattle.desk_model.specs.Change.{applied, applied_one, put}
-use Rattle.desk_model.specs.{Kept.EachOf, Tables.Tables}
-use Rattle.desk_model.specs.Questions.{account_on, authorization_on, order_on}
-use Rattle.desk_model.specs.declared.rows.{AccountRow.AccountRow, AuthorizationRow.AuthorizationRow, ChallengeRow.ChallengeRow, Change.Change, Meta.Meta}
-use Rattle.desk_model.specs.declared.rows.{OrderRow.OrderRow}
+use Rattle.model_laws.proofs.{RowLists.put_before, RowLists.put_instead, RowLists.put_past, Basics.each, Basics.each-append, Recorded.applied-append}
 use Rattle.desk_model.specs.declared.rows.Change.TheVariants.{PutMeta, PutNonce, RemoveNonce, PutAccount, PutAuthorization, PutOrder}
-use Rattle.sql_write.specs.Highest.{IsAbove, PutsNone}
-use Rattle.sql_write.specs.declared.stored.Highest.{Highest}
+use Rattle.desk_model.specs.{Change.applied, Change.applied_one, Change.put, Kept.EachOf, Tables.Tables, Questions.account_on, Questions.authorization_on}
+use Rattle.desk_model.specs.{Questions.order_on, declared.rows.AccountRow.AccountRow, declared.rows.AuthorizationRow.AuthorizationRow}
+use Rattle.desk_model.specs.{declared.rows.ChallengeRow.ChallengeRow, declared.rows.Change.Change, declared.rows.Meta.Meta, declared.rows.OrderRow.OrderRow}
 use Rattle.sql_write.specs.Stored.{HasSome, IsRow, IsMadeAs, AreFound, IsPartOf}
+use Rattle.sql_write.specs.{Highest.IsAbove, Highest.PutsNone, declared.stored.Highest.Highest}
 use Rattle.sql_tables.proofs.Keyed.{ranked}
 
 -- ---- look-ups
@@ -101,8 +94,7 @@ all_of x = record { columns = refl; challenges = own x.challenges (λ c h. h) }
 all_found : (part T : Tables) → part.meta ≡ T.meta → AreFound (λ (a : AccountRow). a.number) IsRow part.accounts T.accounts
     → AreFound (λ (a : AuthorizationRow). a.number) HasSome part.authorizations T.authorizations
     → AreFound (λ (o : OrderRow). o.number) IsMadeAs part.orders T.orders → IsPartOf part T
-all_found part T meta accounts authorizations orders =
-    record { meta = meta; accounts = accounts; authorizations = authorizations; orders = orders }
+all_found part T meta accounts authorizations orders = search rules
 
 -- behind one
 part_on : (c : Change) (part T : Tables) → IsPartOf part T → IsPartOf (applied_one c part) (applied_one c T)
@@ -142,13 +134,11 @@ take_more cs i c low is = ap (λ k. take k cs) (add-one i) ∙ take-suc cs i c l
 -- behind it
 pub applied_more : (cs : List Change) (i : ℕ) (c : Change) (T : Tables) → i < length cs → c ≡ get_or cs i c
     → applied (take (i + 1) cs) T ≡ applied_one c (applied (take i cs) T)
-applied_more cs i c T low is =
-    ap (λ xs. applied xs T) (take_more cs i c low is) ∙ applied-append (take i cs) (c ∷ []) T
+applied_more cs i c T low is = grind (arith, applied-append, (take_more cs i c low is))
 
 -- what is found is this, or else that
 pub copied_or : {X : Type 0} (a b : Option (Bor X)) → option_copied (option_or a b) ≡ option_or (option_copied a) (option_copied b)
-copied_or None b = refl
-copied_or (Some x) b = refl
+copied_or a b = search rules
 
 -- what a change leaves that puts no such row
 pub record Leaves (c : Change) (T : Tables) (n : ℕ) : Type 0 where
@@ -158,22 +148,12 @@ pub record Leaves (c : Change) (T : Tables) (n : ℕ) : Type 0 where
   pub order : ((x : OrderRow) → c ≢ PutOrder x) → order_on (applied_one c T) n ≡ order_on T n
 
 pub leaves : (c : Change) (T : Tables) (n : ℕ) → Leaves c T n
-leaves (PutMeta x) T n = record { meta = λ never. absurd (never x refl); account = λ _. refl; authorization = λ _. refl; order = λ _. refl }
-leaves (PutNonce x) T n = record { meta = λ _. refl; account = λ _. refl; authorization = λ _. refl; order = λ _. refl }
-leaves (RemoveNonce k) T n = record { meta = λ _. refl; account = λ _. refl; authorization = λ _. refl; order = λ _. refl }
-leaves (PutAccount x) T n = record { meta = λ _. refl; account = λ never. absurd (never x refl); authorization = λ _. refl; order = λ _. refl }
-leaves (PutAuthorization x) T n = record { meta = λ _. refl; account = λ _. refl; authorization = λ never. absurd (never x refl); order = λ _. refl }
-leaves (PutOrder x) T n = record { meta = λ _. refl; account = λ _. refl; authorization = λ _. refl; order = λ never. absurd (never x refl) }
+leaves c T n = search rules
 
 -- what a change puts is lent where it has the number, and is found before what was found
 pub put_lent : {X : Type 0} (key : X → ℕ) (n : ℕ) (x : Bor X) (rows : List X) (lent : Option (Bor X)) → lent ≡ then_some (key x.now == n) x
     → find (λ r. key r == n) (put key x.now rows) ≡ option_or (option_copied lent) (find (λ r. key r == n) rows)
-put_lent key n x rows lent is =
-    find_put key n x.now rows ∙ go (key x.now == n) (find (λ r. key r == n) rows) ∙ ap (λ l. option_or (option_copied l) (find (λ r. key r == n) rows)) (sym is)
-  where
-    go : (b : Bool) (o : Option _) → cond b (Some x.now) o ≡ option_or (option_copied (then_some b x)) o
-    go true o = refl
-    go false o = refl
+put_lent key n x rows lent is = find_put key n x.now rows ∙ grind arith
 
 -- what each of some changes leaves, all of them leave
 pub left_by_all : {X : Type 0} (on : Tables → ℕ → Option X) (n : ℕ) (cs : List Change) (T : Tables)
@@ -194,12 +174,7 @@ none_higher on a b cs low all = each _ _ cs (λ c none T n high. none T n (omega
 pub above_more : (old new : Highest) (cs : List Change) (c : Change) → old.accounts ≤ new.accounts → old.authorizations ≤ new.authorizations
     → old.orders ≤ new.orders → PutsNone account_on new.accounts c → PutsNone authorization_on new.authorizations c → PutsNone order_on new.orders c
     → IsAbove old cs → IsAbove new (cs ++ c ∷ [])
-above_more old new cs c accounts authorizations orders a b o all = record {
-  accounts = each-append (PutsNone account_on new.accounts) cs (c ∷ []) (none_higher account_on old.accounts new.accounts cs accounts all.accounts) (a, tt);
-  authorizations = each-append (PutsNone authorization_on new.authorizations) cs (c ∷ [])
-      (none_higher authorization_on old.authorizations new.authorizations cs authorizations all.authorizations) (b, tt);
-  orders = each-append (PutsNone order_on new.orders) cs (c ∷ []) (none_higher order_on old.orders new.orders cs orders all.orders) (o, tt);
-}
+above_more old new cs c accounts authorizations orders a b o all = search (rules, each-append, none_higher)
 
 -- a row that is put is not above its number
 pub put_below : {X : Type 0} (key : X → ℕ) (x : X) (highest : ℕ) → key x ≤ highest → (rows : List X) (n : ℕ) → highest < n

@@ -1,36 +1,25 @@
 -- Statements run one after the other, and the one that was refused.
-use Rattle.std.proofs.Common.{◌≡◌, ℕ, zero, suc, ◌+◌, ◌-◌, ◌<◌, List, [], ◌∷◌, ◌++◌, Result, Ok, Err, IfErr, IsOk, refl, sym, ap, subst, ◌∙◌, arith}
-use Rattle.std.proofs.Common.{◌⊎◌, inl, inr, add-one, append-nil, drop, get_or, length, take}
+use Rattle.std.proofs.Common.{◌≡◌, ℕ, zero, suc, ◌+◌, ◌-◌, ◌<◌, List, [], ◌∷◌, ◌++◌, Result, Ok, Err, IfErr, IsOk, refl, sym, ap, subst, ◌∙◌, arith, ◌⊎◌, inl}
+use Rattle.std.proofs.Common.{inr, add-one, append-nil, drop, get_or, length, take, rules}
+use Rattle.std.proofs.{Math.Seq.take-suc, lemmas.Grind.flat_map-append, lemmas.List.append_assoc, lemmas.List.take-append-drop}
 use Rattle.std.specs.{List.flat_map}
-use Rattle.std.proofs.{Math.Seq.take-suc, lemmas.Grind.flat_map-append}
-use Rattle.std.proofs.lemmas.List.{append_assoc, take-append-drop}
-use Rattle.sqlite.specs.Held.{Held, state}
-use Rattle.sqlite.specs.{Order.Row, State.Survives, Store.Ghosts}
-use Rattle.sqlite.specs.declared.error.Error.{Error}
+use Rattle.sqlite.specs.{Held.Held, Held.state, Order.Row, State.Survives, Store.Ghosts, declared.error.Error.Error}
 use Rattle.sql_schema.specs.Definitions.{definition_at}
 use Rattle.sql_schema.proofs.StaysLemmas.{asks_nothing}
 use Rattle.sql_write.proofs.Exits.{survives_both}
 use Rattle.sql_write.specs.Refusals.{FailedCommit, HaveBegun, HaveRun, IsCause, Ran, Refuses, Runs, Stops, begun}
-use Rattle.sql_write.specs.{Committing.IsBeforeCommit, Numbers.IsNotTooLarge}
 use Rattle.sql_write.specs.Statements.{Sql, defines, defines_before}
-use Rattle.sql_write.specs.declared.fault.SaveFault.{SaveFault}
+use Rattle.sql_write.specs.{Committing.IsBeforeCommit, Numbers.IsNotTooLarge, declared.fault.SaveFault.SaveFault}
 use Rattle.sql_write.specs.declared.fault.SaveFault.TheVariants as save
 
 -- the statements of one more row
 pub one_more : {X : Type 0} (of : X → List Sql) (rows : List X) (i : ℕ) (d : X) → i < length rows
     → flat_map of (take (i + 1) rows) ≡ flat_map of (take i rows) ++ of (get_or rows i d)
-one_more of rows i d low =
-    ap (λ k. flat_map of (take k rows)) (add-one i) ∙ ap (flat_map of) (take-suc rows i d low) ∙ flat_map-append of (take i rows) (get_or rows i d ∷ [])
-    ∙ ap (λ last. flat_map of (take i rows) ++ last) (append-nil (of (get_or rows i d)))
+one_more of rows i d low = grind (arith, flat_map-append, append-nil, (take-suc rows i d low))
 
 -- two parts of the second of three lists
 among : (xs ys zs all ran rest : List Sql) → (xs ++ ys) ++ zs ≡ all → ys ≡ ran ++ rest → all ≡ (xs ++ ran) ++ (rest ++ zs)
-among xs ys zs all ran rest is are =
-    sym is
-    ∙ append_assoc xs ys zs
-    ∙ ap (λ l. xs ++ (l ++ zs)) are
-    ∙ ap (λ l. xs ++ l) (append_assoc ran rest zs)
-    ∙ sym (append_assoc xs ran (rest ++ zs))
+among xs ys zs all ran rest is are = search (rules, append_assoc)
 
 module _ {S : Type 0} (g : Ghosts S) where
   -- the parameters are these, too
@@ -90,9 +79,7 @@ module _ {S : Type 0} (g : Ghosts S) where
 
 -- those of the first steps begin those of more
 begin_with : (step more : ℕ) → (rest : List Sql) × (defines_before (more + step) ≡ defines_before step ++ rest)
-begin_with step zero =
-    let same : zero + step ≡ step = omega arith in
-    ([], ap defines_before same ∙ sym (append-nil (defines_before step)))
+begin_with step zero = grind (arith, append-nil)
 begin_with step (suc more) =
     let before = begin_with step more in
     let same : suc more + step ≡ suc (more + step) = omega arith in (

@@ -1,21 +1,13 @@
 -- What makes format 2 of format 1.
-use Rattle.sqlite.specs.Held.{Held, state}
-use Rattle.sqlite.specs.Store.{Ghosts}
+use Rattle.sqlite.specs.{Held.Held, Held.state, Store.Ghosts, Effect.Database}
 use Rattle.sql_schema.proofs.Steps.{adds_key_table}
-use Rattle.sql_schema.specs.Definitions.{definition_at}
+use Rattle.sql_schema.specs.{Definitions.definition_at, Defined.AddsKeyTable}
 use Rattle.sql_write.proofs.Written.{run_written}
-use Rattle.sql_write.specs.Refusals.{HasWritten, IsRun}
-use Rattle.sql_write.specs.Statements.{defines}
-use Rattle.sql_write.specs.declared.fault.SaveFault.{SaveFault}
+use Rattle.sql_write.specs.{Refusals.HasWritten, Refusals.IsRun, Statements.defines, declared.fault.SaveFault.SaveFault, Upgrading.Fills, Upgrading.Upgrades}
 use Rattle.std.proofs.Common.{◌≡◌, ℕ, List, [], ◌∷◌, map, Result, refl, sym, ap, subst, ◌∙◌, arith}
-use Rattle.sqlite.specs.Effect.{Database}
-use Rattle.store_columns.specs.Columns.{first_format, known_format}
-use Rattle.store_columns.specs.declared.columns.AnswerKey.{AnswerKey}
+use Rattle.store_columns.specs.{Columns.first_format, Columns.known_format, declared.columns.AnswerKey.AnswerKey}
 use Rattle.desk_model.specs.declared.rows.Meta.{Meta}
-use Rattle.sql_schema.specs.Defined.{AddsKeyTable}
-use Rattle.sql_write.specs.Upgrading.{Fills, Upgrades}
-use Rattle.sql_tables.specs.Images.{formatted_image, key_image}
-use Rattle.sql_tables.specs.Layouts.{HasRows, formatted_layout, key_layout}
+use Rattle.sql_tables.specs.{Images.formatted_image, Images.key_image, Layouts.HasRows, Layouts.formatted_layout, Layouts.key_layout}
 use Rattle.sql_tables.proofs.NoIndexes.{keeps_both, kept_at}
 
 -- the table that format 1 lacks, then its rows, then the row of `meta`

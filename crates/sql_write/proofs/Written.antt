@@ -3,18 +3,14 @@ use Rattle.std.specs.List.{flat_map}
 use Rattle.std.proofs.Common.{◌≡◌, ℕ, ◌+◌, ◌<◌, ◌≤◌, ◌∙◌, List, [], ◌∷◌, ◌++◌, Result, Ok, Err, OnOk, add-one, ap, get_or, length, refl, sym, subst, take}
 use Rattle.std.proofs.Common.{take_all}
 use Rattle.std.proofs.Math.Seq.{take-suc}
-use Rattle.sqlite.specs.{Effect.Database, Order.Row, Store.Ghosts}
-use Rattle.sqlite.specs.Held.{Held, state}
-use Rattle.sql_schema.proofs.AdvanceLemmas.{advances_as, performs_keeps}
-use Rattle.sql_schema.proofs.StaysLemmas.{asks_nothing}
+use Rattle.sqlite.specs.{Effect.Database, Order.Row, Store.Ghosts, Held.Held, Held.state}
+use Rattle.sql_schema.proofs.{AdvanceLemmas.advances_as, AdvanceLemmas.performs_keeps, StaysLemmas.asks_nothing}
 use Rattle.sql_schema.specs.Advances.{Advances, Performs}
 use Rattle.sql_write.proofs.Exits.{advances_both, kept_behind, survives_both}
 use Rattle.sql_write.proofs.Told.{none_begun, one_more, ran_behind, runs_with, stops_among, stops_some, stops_at}
 use Rattle.sql_write.specs.Refusals.{HasWritten, IsRun, Stops}
-use Rattle.sql_write.specs.Statements.{Sql}
-use Rattle.sql_write.specs.declared.fault.SaveFault.{SaveFault}
+use Rattle.sql_write.specs.{Statements.Sql, declared.fault.SaveFault.SaveFault, declared.fault.WriteFault.WriteFault}
 use Rattle.sql_write.specs.declared.fault.SaveFault.TheVariants as save
-use Rattle.sql_write.specs.declared.fault.WriteFault.{WriteFault}
 
 -- what is done
 abbrev Doing : Type 1

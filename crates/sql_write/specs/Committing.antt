@@ -1,10 +1,8 @@
 -- What a transaction leaves, committed or not.
 use Rattle.std.specs.Prelude.{◌≡◌, IsTrue}
-use Rattle.sqlite.specs.Effect.{Database, IsDatabase}
-use Rattle.sqlite.specs.{State.State, Tree.Trees}
+use Rattle.sqlite.specs.{Effect.Database, Effect.IsDatabase, State.State, Tree.Trees}
 use Rattle.desk_model.specs.Tables.{Tables}
-use Rattle.sql_write.specs.declared.fault.SaveFault.{SaveFault}
-use Rattle.sql_write.specs.declared.fault.SaveFault.TheVariants.{Row, Statement, Commit}
+use Rattle.sql_write.specs.declared.fault.{SaveFault.SaveFault, SaveFault.TheVariants.Row, SaveFault.TheVariants.Statement, SaveFault.TheVariants.Commit}
 use Rattle.sql_tables.specs.Holds.{Holds}
 
 -- what was done is committed, and a stop finds that and nothing else

@@ -1,13 +1,10 @@
 -- How a row differs from the one that stands in its place, table by table.
 use Rattle.std.specs.Prelude.{ℕ, List, ◌==◌, ◌&&◌, Bool, true, false, Option, Some, None, bytes_eq}
 use Rattle.store_columns.specs.declared.columns.AnswerKey.{AnswerKey}
-use Rattle.desk_model.specs.Document.{authorization_status_text, challenge_status_text, kind_text}
-use Rattle.desk_model.specs.Facts.{end_kind_text, outcome_text}
-use Rattle.desk_model.specs.Name.{same_name}
-use Rattle.desk_model.specs.declared.{objects.Answer.Answer, objects.AuthorizationEnd.AuthorizationEnd, objects.Report.Report, rows.AccountRow.AccountRow}
-use Rattle.desk_model.specs.declared.{rows.AuthorizationRow.AuthorizationRow, rows.ChallengeRow.ChallengeRow, rows.Meta.Meta, rows.OrderRow.OrderRow}
-use Rattle.sql_write.specs.Write.{difference}
-use Rattle.sql_write.specs.declared.stored.Difference.{Difference}
+use Rattle.desk_model.specs.{Document.authorization_status_text, Document.challenge_status_text, Document.kind_text, Facts.end_kind_text, Facts.outcome_text}
+use Rattle.desk_model.specs.{Name.same_name, declared.objects.Answer.Answer, declared.objects.AuthorizationEnd.AuthorizationEnd, declared.objects.Report.Report}
+use Rattle.desk_model.specs.declared.rows.{AccountRow.AccountRow, AuthorizationRow.AuthorizationRow, ChallengeRow.ChallengeRow, Meta.Meta, OrderRow.OrderRow}
+use Rattle.sql_write.specs.{Write.difference, declared.stored.Difference.Difference}
 
 -- ---- what a row was made with
 

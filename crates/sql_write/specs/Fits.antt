@@ -1,10 +1,8 @@
 -- Which rows an INTEGER column can take: each number is at most 2^63 - 1.
 use Rattle.std.specs.Prelude.{ℕ, ◌<◌, ◌^◌, List, [], ◌∷◌, Option, option_map}
-use Rattle.desk_model.specs.Kept.{EachOf}
-use Rattle.desk_model.specs.declared.{objects.Nonce.Nonce, rows.AccountRow.AccountRow, rows.AuthorizationRow.AuthorizationRow, rows.ChallengeRow.ChallengeRow}
-use Rattle.desk_model.specs.declared.{rows.Listed.Listed, rows.Meta.Meta, rows.OrderRow.OrderRow}
-use Rattle.store_columns.specs.Limits.{IfRecorded}
-use Rattle.store_columns.specs.declared.columns.{AnswerKey.AnswerKey, Owned.Owned}
+use Rattle.desk_model.specs.{Kept.EachOf, declared.objects.Nonce.Nonce, declared.rows.AccountRow.AccountRow, declared.rows.AuthorizationRow.AuthorizationRow}
+use Rattle.desk_model.specs.{declared.rows.ChallengeRow.ChallengeRow, declared.rows.Listed.Listed, declared.rows.Meta.Meta, declared.rows.OrderRow.OrderRow}
+use Rattle.store_columns.specs.{Limits.IfRecorded, declared.columns.AnswerKey.AnswerKey, declared.columns.Owned.Owned}
 
 -- a number
 abbrev pub Fits : ℕ → Type 0

@@ -1,16 +1,11 @@
 -- Which changes may be saved, and what a save does.
-use Rattle.std.specs.Prelude.{List, [], ◌∷◌}
-use Rattle.std.specs.List.{flat_map}
+use Rattle.std.specs.{Prelude.List, Prelude.[], Prelude.◌∷◌, List.flat_map}
 use Rattle.sqlite.specs.Effect.{Database}
 use Rattle.store_columns.specs.Flat.{challenge_rows, listed_rows}
-use Rattle.model_laws.specs.{Distinct.Distinct, Ordered.Ascends}
-use Rattle.model_laws.specs.News.{AreKept, KeepsChildren}
-use Rattle.desk_model.specs.Change.{applied, applied_one}
-use Rattle.desk_model.specs.{Kept.EachOf, Tables.Tables}
-use Rattle.desk_model.specs.declared.rows.Change.{Change}
+use Rattle.model_laws.specs.{Distinct.Distinct, Ordered.Ascends, News.AreKept, News.KeepsChildren}
+use Rattle.desk_model.specs.{Change.applied, Change.applied_one, Kept.EachOf, Tables.Tables, declared.rows.Change.Change}
 use Rattle.sql_write.specs.Stored.{IsPartOf}
-use Rattle.sql_tables.specs.Holds.{AreApart, AreRising, Holds}
-use Rattle.sql_tables.specs.Layouts.{challenge_layout}
+use Rattle.sql_tables.specs.{Holds.AreApart, Holds.AreRising, Holds.Holds, Layouts.challenge_layout}
 
 -- no number of a challenge stands twice, through all authorizations, and no place of an order does
 pub record InOrder (T : Tables) : Type 0 where

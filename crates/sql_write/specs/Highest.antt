@@ -1,8 +1,7 @@
 -- Above which numbers changes put no row.
 use Rattle.std.specs.Prelude.{◌≡◌, ◌<◌, ℕ, List, Option}
-use Rattle.desk_model.specs.{Change.applied_one, Kept.EachOf, Tables.Tables}
 use Rattle.desk_model.specs.Questions.{account_on, authorization_on, order_on}
-use Rattle.desk_model.specs.declared.rows.Change.{Change}
+use Rattle.desk_model.specs.{Change.applied_one, Kept.EachOf, Tables.Tables, declared.rows.Change.Change}
 use Rattle.sql_write.specs.declared.stored.Highest.{Highest}
 
 -- whatever the tables, above this number the change leaves what is found in them

@@ -1,24 +1,18 @@
 -- What puts of several rows, and changes, make of a database.
 use Rattle.std.specs.Prelude.{◌≡◌, ℕ, List, [], ◌∷◌, Option, Some, None, IfSome, option_map}
-use Rattle.sqlite.specs.Effect.{Database, IsDatabase}
-use Rattle.sqlite.specs.Order.{Row}
+use Rattle.sqlite.specs.{Effect.Database, Effect.IsDatabase, Order.Row}
 use Rattle.sqlite_rules.specs.Lists.{Has}
-use Rattle.store_columns.specs.Columns.{known_format, order_columns}
-use Rattle.store_columns.specs.Flat.{key_rows, owned_by}
-use Rattle.store_columns.specs.declared.columns.{AnswerKey.AnswerKey, Owned.Owned}
+use Rattle.store_columns.specs.{Columns.known_format, Columns.order_columns, Flat.key_rows, Flat.owned_by, declared.columns.AnswerKey.AnswerKey}
+use Rattle.store_columns.specs.{declared.columns.Owned.Owned}
 use Rattle.model_laws.specs.{Distinct.Distinct, Placing.puts}
 use Rattle.desk_model.specs.Change.{applied, applied_one, put}
-use Rattle.desk_model.specs.{Kept.EachOf, Tables.Tables}
-use Rattle.desk_model.specs.declared.rows.{AuthorizationRow.AuthorizationRow, ChallengeRow.ChallengeRow, Change.Change, Listed.Listed, Meta.Meta}
-use Rattle.desk_model.specs.declared.rows.{OrderRow.OrderRow}
-use Rattle.sql_write.specs.Fitting.{AreFit, IsFit}
-use Rattle.sql_write.specs.Stored.{IsPartOf, stored_challenge, stored_key}
-use Rattle.sql_write.specs.declared.stored.Write.{Write}
-use Rattle.sql_write.specs.declared.stored.Write.TheVariants.{Upsert, Insert, Update}
+use Rattle.desk_model.specs.{Kept.EachOf, Tables.Tables, declared.rows.AuthorizationRow.AuthorizationRow, declared.rows.ChallengeRow.ChallengeRow}
+use Rattle.desk_model.specs.{declared.rows.Change.Change, declared.rows.Listed.Listed, declared.rows.Meta.Meta, declared.rows.OrderRow.OrderRow}
+use Rattle.sql_write.specs.{Fitting.AreFit, Fitting.IsFit, Stored.IsPartOf, Stored.stored_challenge, Stored.stored_key, declared.stored.Write.Write}
+use Rattle.sql_write.specs.{declared.stored.Write.TheVariants.Upsert, declared.stored.Write.TheVariants.Insert, declared.stored.Write.TheVariants.Update}
 use Rattle.sql_tables.specs.Effects.{Adds, Appends, Becomes, BecomesRows, Places, Puts, Renews, is_same_place}
-use Rattle.sql_tables.specs.Hidden.{IsPlaced, next, number}
-use Rattle.sql_tables.specs.{Holds.Holds, Images.order_kept}
 use Rattle.sql_tables.specs.Layouts.{HasRows, Layout, authorization_layout, challenge_layout, formatted_layout, key_layout, listed_layout, order_layout}
+use Rattle.sql_tables.specs.{Hidden.IsPlaced, Hidden.next, Hidden.number, Holds.Holds, Images.order_kept}
 
 -- ---- several rows of one table
 

@@ -1,8 +1,7 @@
 -- What making a desk does to an empty database.
 use Rattle.std.specs.Prelude.{◌≡◌, []}
 use Rattle.sqlite.specs.Effect.{Database}
-use Rattle.desk_model.specs.Tables.{Tables}
-use Rattle.desk_model.specs.declared.rows.Meta.{Meta}
+use Rattle.desk_model.specs.{Tables.Tables, declared.rows.Meta.Meta}
 use Rattle.sql_schema.specs.Schema.{no_schema}
 use Rattle.sql_tables.specs.Holds.{Holds}
 

@@ -1,10 +1,8 @@
 -- Changes whose numbers the columns take.
 use Rattle.std.specs.Prelude.{◌≢◌, List}
-use Rattle.store_columns.specs.Flat.{owned_by}
-use Rattle.store_columns.specs.declared.columns.AnswerKey.{AnswerKey}
-use Rattle.desk_model.specs.Kept.{EachOf}
-use Rattle.desk_model.specs.declared.rows.{Change.Change, Meta.Meta}
+use Rattle.store_columns.specs.{Flat.owned_by, declared.columns.AnswerKey.AnswerKey}
 use Rattle.desk_model.specs.declared.rows.Change.TheVariants.{PutMeta, PutNonce, RemoveNonce, PutAccount, PutAuthorization, PutOrder}
+use Rattle.desk_model.specs.{Kept.EachOf, declared.rows.Change.Change, declared.rows.Meta.Meta}
 use Rattle.sql_write.specs.declared.fault.{SaveFault.SaveFault, SaveFault.TheVariants.Row, WriteFault.TheVariants.TooLarge}
 use Rattle.sql_write.specs.Fits.{Fits, FitsAccount, FitsAuthorization, FitsChallenge, FitsKey, FitsListed, FitsMeta, FitsNonce, FitsOrder}
 

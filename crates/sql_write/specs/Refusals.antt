@@ -1,12 +1,9 @@
 -- What a transaction ran, and what it was refused.
 use Rattle.std.specs.Prelude.{◌≡◌, ℕ, true, List, [], ◌∷◌, ◌++◌, Result, Ok, Err, MatchResult, OnOk}
-use Rattle.sqlite.specs.{Effect.Database, Steps.FailsToCommit, Store.Ghosts}
-use Rattle.sqlite.specs.Held.{Held, state}
-use Rattle.sqlite.specs.State.{HasCleanDisk, Survives}
-use Rattle.sqlite.specs.declared.error.Error.{Error}
-use Rattle.sql_write.specs.Statements.{Sql}
-use Rattle.sql_write.specs.declared.fault.{SaveFault.SaveFault, WriteFault.TheVariants.TooLarge}
+use Rattle.sqlite.specs.{Effect.Database, Steps.FailsToCommit, Store.Ghosts, Held.Held, Held.state, State.HasCleanDisk, State.Survives}
+use Rattle.sqlite.specs.{declared.error.Error.Error}
 use Rattle.sql_write.specs.declared.fault.SaveFault.TheVariants.{Row, Statement, Commit}
+use Rattle.sql_write.specs.{Statements.Sql, declared.fault.SaveFault.SaveFault, declared.fault.WriteFault.TheVariants.TooLarge}
 use Rattle.sql_schema.specs.Advances.{Advances, KeepsLast, Performs}
 
 -- the connection inside a transaction that was just begun

@@ -1,22 +1,17 @@
 -- The statements that a transaction runs, by what it is to do.
 use Rattle.std.specs.Prelude.{ℕ, ℤ, zero, suc, pos, List, [], ◌∷◌, ◌++◌, nat_lt, Bool, false, ◌||◌, Option, Some, None, is_some, option_map}
 use Rattle.std.specs.List.{flat_map}
-use Rattle.sqlite.specs.Order.{Row}
-use Rattle.sqlite.specs.declared.types.Value.TheVariants.{Int}
-use Rattle.store_columns.specs.Columns.{account_columns, authorization_columns, challenge_columns, key_columns, known_format}
-use Rattle.store_columns.specs.Columns.{listed_columns, nonce_columns, order_columns}
-use Rattle.store_columns.specs.Flat.{answer_key, bare_row}
-use Rattle.store_columns.specs.declared.columns.{AnswerKey.AnswerKey, Owned.Owned}
+use Rattle.sqlite.specs.{Order.Row, declared.types.Value.TheVariants.Int}
+use Rattle.store_columns.specs.Columns.{account_columns, authorization_columns, challenge_columns, key_columns, known_format, listed_columns, nonce_columns}
+use Rattle.store_columns.specs.Columns.{order_columns}
+use Rattle.store_columns.specs.{Flat.answer_key, Flat.bare_row, declared.columns.AnswerKey.AnswerKey, declared.columns.Owned.Owned}
+use Rattle.desk_model.specs.{Change.applied_one, Tables.Tables, Questions.account_on, Questions.authorization_on, Questions.order_on}
+use Rattle.desk_model.specs.declared.rows.Change.TheVariants.{PutMeta, PutNonce, RemoveNonce, PutAccount, PutAuthorization, PutOrder}
 use Rattle.desk_model.specs.declared.{objects.Nonce.Nonce, rows.AccountRow.AccountRow, rows.AuthorizationRow.AuthorizationRow, rows.ChallengeRow.ChallengeRow}
 use Rattle.desk_model.specs.declared.{rows.Change.Change, rows.Listed.Listed, rows.Meta.Meta, rows.OrderRow.OrderRow, rows.Counters.Counters}
-use Rattle.desk_model.specs.declared.rows.Change.TheVariants.{PutMeta, PutNonce, RemoveNonce, PutAccount, PutAuthorization, PutOrder}
-use Rattle.desk_model.specs.{Change.applied_one, Tables.Tables}
 use Rattle.sql_write.specs.Differences.{account_difference, authorization_difference, challenge_difference, key_difference, meta_difference, order_difference}
-use Rattle.sql_write.specs.Write.{write}
-use Rattle.sql_write.specs.Stored.{stored_challenge, stored_key}
-use Rattle.desk_model.specs.Questions.{account_on, authorization_on, order_on}
-use Rattle.sql_write.specs.declared.stored.Write.{Write}
 use Rattle.sql_write.specs.declared.stored.Write.TheVariants.{Upsert, Insert, Update}
+use Rattle.sql_write.specs.{Write.write, Stored.stored_challenge, Stored.stored_key, declared.stored.Write.Write}
 use Rattle.sql_schema.specs.declared.accounts.TheConstants as account
 use Rattle.sql_schema.specs.declared.authorizations.TheConstants as authz
 use Rattle.sql_schema.specs.declared.challenges.TheConstants as chall

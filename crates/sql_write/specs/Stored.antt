@@ -1,11 +1,10 @@
 -- What is known to stand in the tables: rows of a part.
 use Rattle.std.specs.Prelude.{◌≡◌, ◌==◌, ℕ, List, Option, Some, IfSome, find, option_and_then}
 use Rattle.sqlite_rules.specs.Lists.{Has}
-use Rattle.store_columns.specs.{Columns.order_columns, Flat.answer_key}
-use Rattle.store_columns.specs.declared.columns.AnswerKey.{AnswerKey}
+use Rattle.store_columns.specs.{Columns.order_columns, Flat.answer_key, declared.columns.AnswerKey.AnswerKey}
 use Rattle.desk_model.specs.{Kept.EachOf, Tables.Tables}
-use Rattle.sql_tables.specs.Images.{order_kept}
 use Rattle.desk_model.specs.declared.rows.{AuthorizationRow.AuthorizationRow, ChallengeRow.ChallengeRow, OrderRow.OrderRow}
+use Rattle.sql_tables.specs.Images.{order_kept}
 
 -- ---- what it is
 

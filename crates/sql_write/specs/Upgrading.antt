@@ -1,16 +1,11 @@
 -- What makes format 2 of format 1.
 use Rattle.std.specs.Prelude.{◌≡◌, List, []}
 use Rattle.sqlite.specs.Effect.{Database}
-use Rattle.store_columns.specs.Columns.{known_format}
-use Rattle.store_columns.specs.Flat.{challenge_rows, key_rows}
-use Rattle.store_columns.specs.declared.columns.AnswerKey.{AnswerKey}
+use Rattle.store_columns.specs.{Columns.known_format, Flat.challenge_rows, Flat.key_rows, declared.columns.AnswerKey.AnswerKey}
 use Rattle.model_laws.specs.Placing.{puts}
-use Rattle.desk_model.specs.Tables.{Tables}
-use Rattle.desk_model.specs.declared.rows.Meta.{Meta}
+use Rattle.desk_model.specs.{Tables.Tables, declared.rows.Meta.Meta}
 use Rattle.sql_write.specs.Makes.{PutsAll}
-use Rattle.sql_tables.specs.{Effects.Puts, Sorted.sorted_by}
-use Rattle.sql_tables.specs.Holds.{Holds, HoldsFirst}
-use Rattle.sql_tables.specs.Layouts.{formatted_layout, key_layout}
+use Rattle.sql_tables.specs.{Effects.Puts, Sorted.sorted_by, Holds.Holds, Holds.HoldsFirst, Layouts.formatted_layout, Layouts.key_layout}
 
 -- the keys of answers are put, then the row of `meta` in the format of a desk
 abbrev pub Fills : Meta → List AnswerKey → Database → Database → Type 0

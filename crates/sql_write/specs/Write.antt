@@ -1,8 +1,7 @@
 -- How a row is written, by what is known to stand in its place.
 use Rattle.std.specs.Prelude.{Bool, true, false, Option, Some, None}
-use Rattle.sql_write.specs.declared.stored.{Difference.Difference, Write.Write}
-use Rattle.sql_write.specs.declared.stored.Difference.TheVariants.{Same, Moved, Other}
-use Rattle.sql_write.specs.declared.stored.Write.TheVariants.{Upsert, Insert, Update}
+use Rattle.sql_write.specs.declared.stored.{Difference.Difference, Write.Write, Difference.TheVariants.Same, Difference.TheVariants.Moved}
+use Rattle.sql_write.specs.declared.stored.{Difference.TheVariants.Other, Write.TheVariants.Upsert, Write.TheVariants.Insert, Write.TheVariants.Update}
 
 -- by whether a row keeps what it was made with, and whether all else is the same
 abbrev pub difference : Bool → Bool → Difference

@@ -1,17 +1,13 @@
 -- Rows that are put into a table without what belongs to them.
-use Rattle.std.proofs.Common.{◌≡◌, ℕ, List, [], ◌∷◌, ◌++◌, map, find, Option, Some, None, refl, sym, ap, ◌∙◌, true, false, Bool, cond}
-use Rattle.std.specs.Prelude.{◌==◌, is_some, nat_lt, option_map}
-use Rattle.std.specs.List.{filter, flat_map}
+use Rattle.std.proofs.Common.{◌≡◌, ℕ, List, [], ◌∷◌, map, find, Option, Some, None, refl, sym, ap, ◌∙◌, true, false, Bool, cond, arith, rules}
 use Rattle.std.proofs.lemmas.Grind.{flat_map-append}
-use Rattle.desk_model.specs.{Change.put, Derived.numbers_of, Tables.Tables}
-use Rattle.desk_model.specs.declared.rows.{AuthorizationRow.AuthorizationRow, OrderRow.OrderRow}
+use Rattle.std.specs.{Prelude.◌==◌, Prelude.is_some, Prelude.nat_lt, Prelude.option_map, List.filter, List.flat_map}
+use Rattle.desk_model.specs.{Change.put, Derived.numbers_of, Tables.Tables, declared.rows.AuthorizationRow.AuthorizationRow, declared.rows.OrderRow.OrderRow}
 use Rattle.model_laws.proofs.Basics.{find-map}
 use Rattle.model_laws.specs.{Ordered.IsOrdered, Placing.puts}
-use Rattle.model_lives.specs.IsEnough.{has_work, is_worked_on}
-use Rattle.model_lives.specs.{Loaded.listed_authorizations, Thinned.without_challenges}
 use Rattle.model_lives.specs.LookUps.{AreNumbers, authorizations_numbered, bare_authorizations, orders_processing, owners_processing}
-use Rattle.model_lives.proofs.Lists.{filter_nothing}
-use Rattle.model_lives.proofs.WorkLoading.{listed_loaded, work_loaded}
+use Rattle.model_lives.specs.{IsEnough.has_work, IsEnough.is_worked_on, Loaded.listed_authorizations, Thinned.without_challenges}
+use Rattle.model_lives.proofs.{Lists.filter_nothing, WorkLoading.listed_loaded, WorkLoading.work_loaded}
 use Rattle.store_api.proofs.Missing.{missings_put}
 use Rattle.store_api.specs.Needing.{missing, missings}
 
@@ -62,9 +58,7 @@ module _ {X : Type 0} (number : X → ℕ) (bare : X → X) (same : (x : X) → 
 -- what orders list, order by order
 pub nested : (T : Tables) (os : List OrderRow) → flat_map (authorizations_numbered T) (flat_map (λ o. numbers_of o.listed) os) ≡ listed_authorizations T os
 nested T [] = refl
-nested T (o ∷ os) =
-    flat_map-append (authorizations_numbered T) (numbers_of o.listed) (flat_map (λ o. numbers_of o.listed) os)
-    ∙ ap (λ l. flat_map (authorizations_numbered T) (numbers_of o.listed) ++ l) (nested T os)
+nested T (o ∷ os) = grind (arith, flat_map-append, (nested T os))
 
 -- the authorizations of numbers without challenges, each put once
 bare_loaded : (T : Tables) → IsOrdered T → (numbers : List ℕ) →
@@ -89,9 +83,4 @@ bare_working T h numbers are = bare_loaded T h numbers ∙ ap (map without_chall
 pub worked_on : (T : Tables) → IsOrdered T →
     missings (λ r. r.number) (bare_authorizations T) (flat_map (λ o. numbers_of o.listed) (orders_processing T)) []
     ≡ map without_challenges (filter (is_worked_on T) T.authorizations)
-worked_on T h =
-    bare_loaded T h (flat_map (λ (o : OrderRow). numbers_of o.listed) (orders_processing T))
-    ∙ ap (map without_challenges) (ap (λ rows. puts number rows []) (nested T (orders_processing T)) ∙ listed_loaded T h)
-  where
-    number : AuthorizationRow → ℕ
-    number r = r.number
+worked_on T h = search (rules, bare_loaded, nested, listed_loaded)

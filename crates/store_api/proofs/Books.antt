@@ -1,20 +1,17 @@
 -- The rows of a book that a call touches are a book.
-use Rattle.std.proofs.Common.{◌≡◌, ◌≢◌, ℕ, ◌+◌, max, List, [], ◌∷◌, filter, Some, refl, ap, ◌∙◌, true, false, Bool, cond}
-use Rattle.std.specs.Prelude.{◌==◌, ◌&&◌, find, is_some, IsSome}
-use Rattle.std.specs.List.{flat_map}
+use Rattle.std.proofs.Common.{◌≡◌, ◌≢◌, ℕ, max, List, [], ◌∷◌, filter, Some, ◌∙◌, true, false, Bool, cond, arith, rules}
 use Rattle.std.proofs.lemmas.Bool.{and_from, or_left, or_right}
+use Rattle.std.specs.{Prelude.◌==◌, Prelude.◌&&◌, Prelude.find, Prelude.IsSome, List.flat_map}
 use Rattle.store_book.specs.IsBook.{HaveReferences, IsBook}
-use Rattle.desk_model.specs.{Questions.account_on, Tables.Tables, Kept.EachOf}
-use Rattle.desk_model.specs.declared.call.Ask.{Ask}
+use Rattle.desk_model.specs.Touched.{is_first_authorization, is_named_account, is_touched_account, is_touched_authorization, is_touched_order, lists, only_meta}
+use Rattle.desk_model.specs.Touched.{touched, touched_at, touched_rows}
+use Rattle.desk_model.specs.{Questions.account_on, Tables.Tables, Kept.EachOf, declared.call.Ask.Ask, declared.call.Call.Call}
+use Rattle.desk_model.specs.{declared.rows.AccountRow.AccountRow, declared.rows.Listed.Listed}
 use Rattle.desk_model.specs.declared.call.Ask.TheVariants as ask
 use Rattle.desk_model.specs.declared.call.OfficeAsk.TheVariants as office
-use Rattle.desk_model.specs.declared.{call.Call.Call, rows.AccountRow.AccountRow, rows.Listed.Listed}
 use Rattle.model_laws.specs.Distinct.{Distinct}
 use Rattle.model_laws.proofs.Basics.{each, each_both, each_parts, each-append, list_any-map}
-use Rattle.model_laws.proofs.Distinctness.{distinct-append, distinct_parts}
-use Rattle.model_laws.proofs.{Recorded.below_filter, RowLists.ascends_filter, Finds.found_passes}
-use Rattle.desk_model.specs.Touched.{is_first_authorization, is_named_account, is_touched_account, is_touched_authorization}
-use Rattle.desk_model.specs.Touched.{is_touched_nonce, is_touched_order, lists, only_meta, touched, touched_at, touched_rows}
+use Rattle.model_laws.proofs.{Distinctness.distinct-append, Distinctness.distinct_parts, RowLists.ascends_filter, Finds.found_passes}
 use Rattle.model_lives.proofs.Lists.{each_member, filtered_each, turned}
 
 -- ---- lists
@@ -23,16 +20,7 @@ use Rattle.model_lives.proofs.Lists.{each_member, filtered_each, turned}
 some_filter : {X : Type 0} (p test : X → Bool) (xs : List X) → IsSome (find p xs) →
     ((x : X) → find p xs ≡ Some x → test x ≡ true) → IsSome (find p (filter test xs))
 some_filter p test [] h f = h
-some_filter p test (x ∷ xs) h f = by (p x) refl (test x) refl h f (some_filter p test xs)
-  where
-    by : (b : Bool) → p x ≡ b → (c : Bool) → test x ≡ c → IsSome (cond b (Some x) (find p xs)) →
-        ((y : _) → cond b (Some x) (find p xs) ≡ Some y → test y ≡ true) →
-        (IsSome (find p xs) → ((y : _) → find p xs ≡ Some y → test y ≡ true) → IsSome (find p (filter test xs))) →
-        IsSome (find p (cond c (x ∷ filter test xs) (filter test xs)))
-    by true e true r k g ih = ap (λ b. is_some (cond b (Some x) (find p (filter test xs)))) e
-    by true e false r k g ih = let yes : test x ≡ true = g x refl in cc
-    by false e true r k g ih = ap (λ b. is_some (cond b (Some x) (find p (filter test xs)))) e ∙ ih k g
-    by false e false r k g ih = ih k g
+some_filter p test (x ∷ xs) h f = grind (arith, (some_filter p test xs))
 
 -- values that stand once do so among the items that pass
 distinct_filter : {X Y : Type 0} (value : X → Y) (p : X → Bool) (xs : List X) → Distinct value xs → Distinct value (filter p xs)
@@ -49,8 +37,7 @@ flat_filtered P f p [] h = tt
 flat_filtered P f p (x ∷ xs) h = let parts = each_parts P (f x) (flat_map f xs) h in by (p x) parts.0 (flat_filtered P f p xs parts.1)
   where
     by : (b : Bool) → EachOf P (f x) → EachOf P (flat_map f (filter p xs)) → EachOf P (flat_map f (cond b (x ∷ filter p xs) (filter p xs)))
-    by true own k = each-append P (f x) (flat_map f (filter p xs)) own k
-    by false own k = k
+    by b l k = grind (arith, each-append)
 
 -- values that stand once in the parts of all items do so in those of the items that pass
 distinct_flat : {X Y Z : Type 0} (value : Y → Z) (f : X → List Y) (p : X → Bool) (xs : List X) → Distinct value (flat_map f xs) →
@@ -72,9 +59,7 @@ distinct_flat value f p (x ∷ xs) h =
 holder_found : (T : Tables) (m : ℕ) (a : Ask) (n : ℕ) → IsSome (account_on T n) →
     ((x : AccountRow) → (n == x.number) ≡ true → is_touched_account T m a x ≡ true) →
     IsSome (account_on (touched_rows T m a) n)
-holder_found T m a n there touches =
-    some_filter (λ x. x.number == n) (is_touched_account T m a) T.accounts there
-    (λ x found. touches x (turned x.number n (found_passes (λ x. x.number == n) T.accounts x found)))
+holder_found T m a n there touches = search (rules, some_filter, found_passes)
 
 -- each reference of a touched row is found among the touched rows
 rows_refer : (T : Tables) (m : ℕ) (a : Ask) → HaveReferences T → HaveReferences (touched_rows T m a)
@@ -103,44 +88,11 @@ rows_refer T m a h =
 
 -- the touched rows of a book are a book
 rows_book : (T : Tables) (m : ℕ) (a : Ask) → IsBook T → IsBook (touched_rows T m a)
-rows_book T m a b =
-    record {
-      in_order = record {
-        nonces = ascends_filter (λ n. n.serial) (is_touched_nonce T m a) 1 T.nonces b.in_order.nonces;
-        accounts = ascends_filter (λ a. a.number) (is_touched_account T m a) 1 T.accounts b.in_order.accounts;
-        authorizations = ascends_filter (λ a. a.number) (is_touched_authorization T m a) 1 T.authorizations b.in_order.authorizations;
-        challenges = filtered_each _ (is_touched_authorization T m a) T.authorizations (each _ _ T.authorizations (λ r f yes. f) b.in_order.challenges);
-        orders = ascends_filter (λ o. o.number) (is_touched_order T m a) 1 T.orders b.in_order.orders;
-        places = filtered_each _ (is_touched_order T m a) T.orders (each _ _ T.orders (λ o f yes. f) b.in_order.places);
-      };
-      sound = record {
-        counters = record {
-          nonces = below_filter (λ n. n.serial) (is_touched_nonce T m a) (T.meta.counters.nonces + 1) T.nonces b.sound.counters.nonces;
-          accounts = below_filter (λ a. a.number) (is_touched_account T m a) (T.meta.counters.accounts + 1) T.accounts b.sound.counters.accounts;
-          authorizations = below_filter (λ a. a.number) (is_touched_authorization T m a) (T.meta.counters.authorizations + 1)
-              T.authorizations b.sound.counters.authorizations;
-          challenges = filtered_each _ (is_touched_authorization T m a) T.authorizations (each _ _ T.authorizations (λ r f yes. f) b.sound.counters.challenges);
-          orders = below_filter (λ o. o.number) (is_touched_order T m a) (T.meta.counters.orders + 1) T.orders b.sound.counters.orders;
-        };
-        references = rows_refer T m a b.sound.references;
-        distinct = record {
-          keys = distinct_filter (λ a. a.key) (is_touched_account T m a) T.accounts b.sound.distinct.keys;
-          challenges = distinct_flat (λ c. c.number) (λ a. a.challenges) (is_touched_authorization T m a) T.authorizations b.sound.distinct.challenges;
-        };
-      };
-    }
+rows_book T m a b = search (rules, ascends_filter, filtered_each, each, rows_refer, distinct_filter, distinct_flat)
 
 -- so is the desk's own row alone
 meta_book : (T : Tables) → IsBook (only_meta T)
-meta_book T =
-    record {
-      in_order = record { nonces = tt; accounts = tt; authorizations = tt; challenges = tt; orders = tt; places = tt };
-      sound = record {
-        counters = record { nonces = tt; accounts = tt; authorizations = tt; challenges = tt; orders = tt };
-        references = record { authorizations = tt; orders = tt; listed = tt };
-        distinct = record { keys = tt; challenges = tt };
-      };
-    }
+meta_book T = search rules
 
 -- so is what any call touches
 pub touched_book : (T : Tables) (call : Call) → IsBook T → IsBook (touched T call)

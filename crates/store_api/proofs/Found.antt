@@ -1,14 +1,11 @@
 -- Look-ups whose rows are put into tables, one after the other.
-use Rattle.std.proofs.Common.{◌≡◌, ℕ, Option, None, Some, List, [], ◌∷◌, Result, Ok, Err, IfErr, IfOk, IsErrAnd, OnOk, subst, ◌∙◌}
-use Rattle.std.specs.{Prelude.option_to_list, Option.MatchOption}
+use Rattle.std.proofs.Common.{◌≡◌, ℕ, Option, List, [], ◌∷◌, Result, Ok, Err, IfErr, IfOk, IsErrAnd, OnOk, subst, rules}
 use Rattle.std.proofs.lemmas.Result.{on_ok_weaker}
+use Rattle.std.specs.{Prelude.option_to_list, Option.MatchOption}
 use Rattle.model_laws.specs.Placing.{puts}
-use Rattle.store_api.specs.Finding.{Finds, LacksMemory}
-use Rattle.store_api.proofs.Gathered.{into_if_found}
-use Rattle.store_api.proofs.Readings.{reads_failing, reads_found, reads_then, unchanged_read}
+use Rattle.store_api.specs.{Finding.Finds, Finding.LacksMemory, Sight.Gives, Sight.Sight, declared.fault.StorageFault.StorageFault}
+use Rattle.store_api.proofs.{Gathered.into_if_found, Readings.reads_failing, Readings.reads_found, Readings.reads_then, Readings.unchanged_read}
 use Rattle.desk_model.specs.Tables.{Tables}
-use Rattle.store_api.specs.Sight.{Gives, Sight}
-use Rattle.store_api.specs.declared.fault.StorageFault.{StorageFault}
 
 module _ {S C : Type 0} {v : Sight S C} where
   -- what follows from what was found
@@ -84,5 +81,4 @@ module _ {S C : Type 0} {v : Sight S C} where
 
 -- an option as a slice
 pub listed_as : {X : Type 0} (o : Option X) (xs ys : List X) → MatchOption o (xs ≡ []) (λ x. xs ≡ x ∷ []) → option_to_list o ≡ ys → xs ≡ ys
-listed_as None xs ys is same = is ∙ same
-listed_as (Some x) xs ys is same = is ∙ same
+listed_as o xs ys h k = search rules

@@ -1,6 +1,5 @@
 -- Rows that are looked up one number after the other, each put into its place.
-use Rattle.std.proofs.Common.{◌≡◌, ℕ, Bool, true, false, cond, refl, filter, List, [], ◌∷◌, ◌++◌}
-use Rattle.std.proofs.Common.{Result, Ok, Err, IfErr, IfOk, OnOk, ap, append-nil, subst, sym, ◌∙◌}
+use Rattle.std.proofs.Common.{◌≡◌, ℕ, Bool, filter, List, [], ◌∷◌, ◌++◌, Result, Err, IfErr, IfOk, OnOk, ap, append-nil, sym, ◌∙◌, rules}
 use Rattle.std.specs.List.{flat_map}
 use Rattle.model_laws.specs.Placing.{puts}
 use Rattle.model_laws.proofs.RowLists.{puts_append}
@@ -12,32 +11,18 @@ pub gathered : {N X : Type 0} (number : X → ℕ) (rows_of : N → List X) (n :
     later ≡ puts number found rows →
     puts number (flat_map rows_of before) rows ≡ all →
     puts number (flat_map rows_of rest) later ≡ all
-gathered number rows_of n before rest found rows later all next looked put_now all_of =
-    ap (puts number (flat_map rows_of rest)) (put_now ∙ ap (λ r. puts number r rows) looked)
-    ∙ sym (puts_append number (rows_of n) (flat_map rows_of rest) rows)
-    ∙ ap (λ l. puts number (flat_map rows_of l) rows) (sym next)
-    ∙ all_of
+gathered number rows_of n before rest found rows later all next looked put_now all_of = search (rules, puts_append)
 
 -- one more row is put, if it passes
 pub put_passed : {X : Type 0} (number : X → ℕ) (p : X → Bool) (row : X) (before rest table later all : List X) → before ≡ row ∷ rest →
     later ≡ puts number (filter p (row ∷ [])) table → puts number (filter p before) table ≡ all → puts number (filter p rest) later ≡ all
-put_passed number p row before rest table later all next put_now so_far =
-    ap (puts number (filter p rest)) put_now
-    ∙ by (p row)
-    ∙ ap (λ l. puts number (filter p l) table) (sym next)
-    ∙ so_far
-  where
-    by : (b : Bool) → puts number (filter p rest) (puts number (cond b (row ∷ []) []) table) ≡ puts number (cond b (row ∷ filter p rest) (filter p rest)) table
-    by true = refl
-    by false = refl
+put_passed number p row before rest table later all next put_now so_far = search rules
 
 -- what was found is put in some way, where there was no fault
 pub into_if_found : {F V B X : Type 0} (into : List X → List X → List X) (items : V → List X) (found : Result V F) (r : Result B F) (xs rows later : List X) →
     IfOk found (λ vs. OnOk r (later ≡ into (items vs) rows)) → IfErr found (λ why. r ≡ Err why) → IfOk found (λ vs. items vs ≡ xs) →
     OnOk r (later ≡ into xs rows)
-into_if_found into items (Ok vs) (Ok done) xs rows later put_now passed looked = put_now ∙ ap (λ l. into l rows) looked
-into_if_found into items (Ok vs) (Err why) xs rows later put_now passed looked = tt
-into_if_found into items (Err why) r xs rows later put_now passed looked = subst (λ q. OnOk q (later ≡ into xs rows)) (sym passed) tt
+into_if_found into items found r xs rows later h k l = search rules
 
 -- rows are put, and then others
 pub put_then : {X : Type 0} (number : X → ℕ) (xs ys rows mid later : List X) → mid ≡ puts number xs rows → later ≡ puts number ys mid →

@@ -1,17 +1,13 @@
 -- Rows that are put into a table which lacks them, without what belongs to them.
-use Rattle.std.proofs.Common.{◌≡◌, ◌+◌, ℕ, List, [], ◌∷◌, ◌++◌, append_assoc, map, find, Option, Some, None, refl, sym, ap, ◌∙◌, subst, true, false}
-use Rattle.std.proofs.Common.{Bool, arith, cond}
-use Rattle.std.specs.Prelude.{◌==◌, if◌then◌else◌, is_some, not, option_map}
-use Rattle.std.specs.List.{filter, flat_map}
-use Rattle.std.proofs.lemmas.Bool.{eqb-true, or_right}
-use Rattle.std.proofs.lemmas.List.{map-append}
-use Rattle.desk_model.specs.Asked.{asked_names, asks_orders}
-use Rattle.desk_model.specs.{Change.put, Derived.numbers_of, Kept.EachOf, Tables.Tables}
-use Rattle.desk_model.specs.declared.{call.Ask.Ask, rows.AccountRow.AccountRow, rows.AuthorizationRow.AuthorizationRow, rows.OrderRow.OrderRow}
+use Rattle.std.proofs.Common.{◌≡◌, ◌+◌, ℕ, List, [], ◌∷◌, ◌++◌, append_assoc, map, find, Option, Some, None, refl, sym, ap, ◌∙◌, subst, true, false, Bool}
+use Rattle.std.proofs.Common.{arith, cond}
+use Rattle.std.proofs.{lemmas.Bool.eqb-true, lemmas.Bool.or_right, lemmas.List.map-append}
+use Rattle.std.specs.{Prelude.◌==◌, Prelude.if◌then◌else◌, Prelude.is_some, Prelude.not, Prelude.option_map, List.filter, List.flat_map}
+use Rattle.desk_model.specs.{Asked.asked_names, Asked.asks_orders, Change.put, Derived.numbers_of, Kept.EachOf, Tables.Tables, declared.call.Ask.Ask}
+use Rattle.desk_model.specs.{declared.rows.AccountRow.AccountRow, declared.rows.AuthorizationRow.AuthorizationRow, declared.rows.OrderRow.OrderRow}
 use Rattle.model_laws.proofs.Basics.{each, find-map, map-each, more_differs}
 use Rattle.model_laws.proofs.RowLists.{ascends_above, ascends_found, puts_append}
-use Rattle.model_laws.specs.Ordered.{Ascends, IsOrdered}
-use Rattle.model_laws.specs.Placing.{puts}
+use Rattle.model_laws.specs.{Ordered.Ascends, Ordered.IsOrdered, Placing.puts}
 use Rattle.model_lives.specs.MinimalPart.{as_needed, authorization_as_needed, is_whole_authorization, is_whole_order, needed_rows, needs_listed}
 use Rattle.model_lives.specs.MinimalPartLoaded.{minimal_accounts, listed_orders, moved_authorizations, opened_orders, restated_authorizations}
 use Rattle.model_lives.specs.MinimalPartLoaded.{whole_authorizations}
@@ -19,11 +15,8 @@ use Rattle.model_lives.specs.Loaded.{accounts_once, authorizations_asked_of, aut
 use Rattle.model_lives.specs.LookUps.{authorizations_numbered, bare_authorizations, summaries_of, orders_of}
 use Rattle.model_lives.specs.Thinned.{summarized, whole_if, without_challenges}
 use Rattle.model_lives.proofs.MinimalPartLoading.{listed_orders_found, loaded_minimal, whole_authorizations_found, whole_found}
-use Rattle.model_lives.proofs.Found.{found_table}
-use Rattle.model_lives.proofs.Lists.{filter_nothing, filter_same, filtered_each}
-use Rattle.model_lives.proofs.Loading.{of_authorization, of_order}
-use Rattle.store_api.proofs.Bare.{nested, put_bare, puts_bare}
-use Rattle.store_api.proofs.Missing.{missing_put, put_number, rows_at, with_number}
+use Rattle.model_lives.proofs.{Found.found_table, Lists.filter_nothing, Lists.filter_same, Lists.filtered_each, Loading.of_authorization, Loading.of_order}
+use Rattle.store_api.proofs.{Bare.nested, Bare.put_bare, Bare.puts_bare, Missing.missing_put, Missing.put_number, Missing.rows_at, Missing.with_number}
 use Rattle.store_api.specs.Needing.{lacking, missing, missings}
 
 -- the rows of a number that is found are that row
@@ -47,15 +40,7 @@ rows_one number m n z (x ∷ xs) up is = by (number x == n) refl is (rows_one nu
 still_found : {X : Type 0} (number : X → ℕ) (q : X → Bool) (z : X) (xs : List X) → q z ≡ true → find (λ x. number x == number z) xs ≡ Some z →
     find (λ x. number x == number z) (filter q xs) ≡ Some z
 still_found number q z [] passes is = is
-still_found number q z (x ∷ xs) passes is = by (q x) refl (number x == number z) refl is (still_found number q z xs passes)
-  where
-    by : (a : Bool) → q x ≡ a → (b : Bool) → (number x == number z) ≡ b → cond b (Some x) (find (λ y. number y == number z) xs) ≡ Some z →
-        (find (λ y. number y == number z) xs ≡ Some z → find (λ y. number y == number z) (filter q xs) ≡ Some z) →
-        find (λ y. number y == number z) (cond a (x ∷ filter q xs) (filter q xs)) ≡ Some z
-    by true e true same here ih = ap (λ c. cond c (Some x) (find (λ y. number y == number z) (filter q xs))) same ∙ here
-    by true e false same later ih = ap (λ c. cond c (Some x) (find (λ y. number y == number z) (filter q xs))) same ∙ ih later
-    by false e true same here ih = absurd (let is : x ≡ z = cc here in let no : q z ≡ false = ap q (sym is) ∙ e in cc)
-    by false e false same later ih = ih later
+still_found number q z (x ∷ xs) passes is = grind (arith, (still_found number q z xs passes))
 
 module _ {X : Type 0} (number : X → ℕ) (bare needed : X → X) (bare_number : (x : X) → number (bare x) ≡ number x)
     (needed_number : (x : X) → number (needed x) ≡ number x) (is_whole : X → Bool) (else_bare : (x : X) → is_whole x ≡ false → bare x ≡ needed x)
@@ -160,15 +145,12 @@ whole_needed T m a (o ∷ os) = by (is_whole_order T m a o) refl (whole_needed T
     by : (b : Bool) → is_whole_order T m a o ≡ b → map (as_needed T m a) (filter (is_whole_order T m a) os) ≡ filter (is_whole_order T m a) os →
         map (as_needed T m a) (cond b (o ∷ filter (is_whole_order T m a) os) (filter (is_whole_order T m a) os))
         ≡ cond b (o ∷ filter (is_whole_order T m a) os) (filter (is_whole_order T m a) os)
-    by true e ih = λ i. whole_if (e i) o ∷ ih i
-    by false e ih = ih
+    by b h k = grind arith
 
 -- the orders of accounts, each in summary
 summaries_own : (T : Tables) (xs : List AccountRow) → flat_map (λ x. summaries_of T x.number) xs ≡ map summarized (flat_map (λ x. orders_of T x.number) xs)
 summaries_own T [] = refl
-summaries_own T (x ∷ xs) =
-    ap (λ l. summaries_of T x.number ++ l) (summaries_own T xs)
-    ∙ sym (map-append summarized (orders_of T x.number) (flat_map (λ x. orders_of T x.number) xs))
+summaries_own T (x ∷ xs) = grind (arith, map-append, (summaries_own T xs))
 
 -- the orders that are opened or named, and summaries of those of the accounts, are the orders as they are needed
 pub needed_orders : (T : Tables) (m : ℕ) (a : Ask) → IsOrdered T →
@@ -196,21 +178,13 @@ needed_orders T m a h =
 
     own : (b : Bool) → (if b then flat_map (λ (x : AccountRow). summaries_of T x.number) (accounts_once (minimal_accounts T a)) else [])
         ≡ map summarized (if b then flat_map (λ (x : AccountRow). orders_of T x.number) (accounts_once (minimal_accounts T a)) else [])
-    own true = summaries_own T (accounts_once (minimal_accounts T a))
-    own false = refl
+    own b = grind (arith, summaries_own)
 
 -- those that are whole are needed so
 whole_challenges : (T : Tables) (m : ℕ) (a : Ask) (rs : List AuthorizationRow) →
     map (authorization_as_needed T m a) (filter (is_whole_authorization T m a) rs) ≡ filter (is_whole_authorization T m a) rs
 whole_challenges T m a [] = refl
-whole_challenges T m a (r ∷ rs) = by (is_whole_authorization T m a r) refl (whole_challenges T m a rs)
-  where
-    by : (b : Bool) → is_whole_authorization T m a r ≡ b →
-        map (authorization_as_needed T m a) (filter (is_whole_authorization T m a) rs) ≡ filter (is_whole_authorization T m a) rs →
-        map (authorization_as_needed T m a) (cond b (r ∷ filter (is_whole_authorization T m a) rs) (filter (is_whole_authorization T m a) rs))
-        ≡ cond b (r ∷ filter (is_whole_authorization T m a) rs) (filter (is_whole_authorization T m a) rs)
-    by true e ih = λ i. record r { challenges = if e i then r.challenges else [] } ∷ ih i
-    by false e ih = ih
+whole_challenges T m a (r ∷ rs) = grind (arith, (whole_challenges T m a rs))
 
 -- the authorizations that may change, or are named or wanted, and those that orders list, which lack their challenges, are the authorizations as
 -- they are needed
@@ -238,5 +212,4 @@ needed_authorizations T m a h =
     listed = flat_map (λ (o : OrderRow). numbers_of o.listed) (orders_once (opened_orders T m a))
 
     whole : puts of_authorization (whole_authorizations T m a) [] ≡ filter (is_whole_authorization T m a) T.authorizations
-    whole = found_table of_authorization (is_whole_authorization T m a) 1 T.authorizations (whole_authorizations T m a) h.authorizations.0
-        (whole_authorizations_found T m a h)
+    whole = grind (arith, found_table, whole_authorizations_found)

@@ -1,23 +1,20 @@
 -- The rows that are enough for an ask, by what it needs.
-use Rattle.std.proofs.Common.{◌≡◌, ℕ, List, [], ◌∷◌, ◌++◌, ap, append_assoc, filter, map, refl, sym, ◌∙◌, true, false, Bool}
+use Rattle.std.proofs.Common.{◌≡◌, ℕ, List, [], ◌∷◌, ◌++◌, ap, append_assoc, filter, map, refl, sym, ◌∙◌, Bool, arith}
 use Rattle.std.proofs.lemmas.List.Folds.{flat_map-map}
 use Rattle.model_laws.specs.{Ordered.IsOrdered, Placing.puts}
 use Rattle.model_laws.proofs.RowLists.{puts_append}
 use Rattle.desk_model.specs.{Touched.is_named_account, Tables.Tables}
+use Rattle.desk_model.specs.declared.{call.Ask.Ask, rows.AccountRow.AccountRow, rows.AuthorizationRow.AuthorizationRow}
 use Rattle.model_lives.proofs.Found.{found_table, IsFound, found_both, found_by, found_filter}
 use Rattle.model_lives.proofs.Loading.{accounts_named, of_account}
 use Rattle.store_api.proofs.Missing.{missings_put}
-use Rattle.std.specs.List.{list_any, flat_map}
-use Rattle.std.specs.Prelude.{◌||◌, bytes_eq, ◌&&◌, if◌then◌else◌}
-use Rattle.model_lives.specs.Loaded.{account_numbers, keys, new_keys}
-use Rattle.model_lives.specs.LookUps.{accounts_with_key, accounts_numbered}
-use Rattle.store_api.specs.Needing.{keyed_accounts, missings, with_named}
-use Rattle.desk_model.specs.declared.{call.Ask.Ask, rows.AccountRow.AccountRow, rows.AuthorizationRow.AuthorizationRow}
+use Rattle.std.specs.{List.list_any, List.flat_map, Prelude.◌||◌, Prelude.bytes_eq, Prelude.◌&&◌, Prelude.if◌then◌else◌}
+use Rattle.model_lives.specs.Loaded.{account_numbers, keys, new_keys, accounts_once, authorizations_once, listing_orders, named_accounts, past_authorizations}
+use Rattle.model_lives.specs.Loaded.{past_orders}
+use Rattle.model_lives.specs.LookUps.{accounts_with_key, accounts_numbered, authorizations_numbered, authorizations_of, orders_numbered, owners_of}
 use Rattle.model_lives.specs.MinimalPart.{needs_holders}
 use Rattle.model_lives.specs.MinimalPartLoaded.{minimal_accounts, holders_of, moved_authorizations, opened_orders, restated_authorizations}
-use Rattle.model_lives.specs.Loaded.{accounts_once, authorizations_once, listing_orders, named_accounts, past_authorizations, past_orders}
-use Rattle.model_lives.specs.LookUps.{authorizations_numbered, authorizations_of, orders_numbered, owners_of}
-use Rattle.store_api.specs.Needing.{NeedsFor, movable_by, opened_with, restated_by}
+use Rattle.store_api.specs.Needing.{keyed_accounts, missings, with_named, NeedsFor, movable_by, opened_with, restated_by}
 use Rattle.store_api.specs.declared.enough.RowsNeeded.{RowsNeeded}
 
 -- rows that lead to themselves alone
@@ -68,8 +65,7 @@ holders_missing T a h =
     by : (b : Bool) →
         flat_map (accounts_numbered T) (if b then map (λ (r : AuthorizationRow). r.account) (authorizations_once (moved_authorizations T a)) else [])
         ≡ (if b then holders_of T (authorizations_once (moved_authorizations T a)) else [])
-    by true = flat_map-map (accounts_numbered T) (λ (r : AuthorizationRow). r.account) (authorizations_once (moved_authorizations T a))
-    by false = refl
+    by b = grind (arith, flat_map-map)
 
     named : accounts_once (named_accounts T a) ≡ filter (is_named_account a) T.accounts
     named = found_table of_account (is_named_account a) 1 T.accounts (named_accounts T a) h.accounts.0 (accounts_named T a h)

@@ -1,14 +1,10 @@
 -- Rows that are put into a table which has some of them already.
-use Rattle.std.proofs.Common.{◌≡◌, ℕ, List, [], ◌∷◌, ◌++◌, filter, find, map, Option, Some, None, refl, sym, ap, ◌∙◌, true, false, Bool, cond}
-use Rattle.std.specs.Prelude.{◌==◌, ◌&&◌, ◌||◌, is_some}
-use Rattle.std.specs.List.{flat_map, list_any}
+use Rattle.std.proofs.Common.{◌≡◌, ℕ, List, [], ◌∷◌, ◌++◌, filter, find, map, Option, Some, refl, sym, ap, ◌∙◌, true, false, Bool, cond, arith, rules}
 use Rattle.std.proofs.lemmas.Bool.{eqb-true}
+use Rattle.std.specs.{Prelude.◌==◌, Prelude.◌&&◌, Prelude.◌||◌, Prelude.is_some, List.flat_map, List.list_any}
 use Rattle.model_laws.specs.{Ordered.Ascends, Placing.puts}
-use Rattle.model_laws.proofs.Basics.{each, each_both, list_any-same}
-use Rattle.model_laws.proofs.RowLists.{ascends_found, puts_append}
-use Rattle.model_lives.proofs.Cut.{at_number, numbered}
-use Rattle.model_lives.proofs.Found.{any_filter, puts_filter}
-use Rattle.model_lives.proofs.Lists.{filter_same, filtered_each}
+use Rattle.model_laws.proofs.{Basics.each, Basics.each_both, Basics.list_any-same, RowLists.ascends_found, RowLists.puts_append}
+use Rattle.model_lives.proofs.{Cut.at_number, Cut.numbered, Found.any_filter, Found.puts_filter, Lists.filter_same, Lists.filtered_each}
 use Rattle.desk_model.specs.Kept.{EachOf}
 use Rattle.store_api.specs.Needing.{lacking, missing, missings}
 
@@ -23,9 +19,7 @@ with_number number xs n p x = list_any (λ y. number y == number x) (rows_at num
 -- they are put among rows that pass a test
 pub put_number : {X : Type 0} (number : X → ℕ) (xs : List X) → Ascends number 1 xs → (n : ℕ) (p : X → Bool) →
     puts number (rows_at number xs n) (filter p xs) ≡ filter (with_number number xs n p) xs
-put_number number xs h n p =
-    puts_filter number 1 xs h (rows_at number xs n) p
-    (filtered_each _ (λ x. number x == n) xs (each _ _ xs (λ x found same. found) (ascends_found number 1 xs h)))
+put_number number xs h n p = search (rules, puts_filter, filtered_each, each, ascends_found)
 
 -- a row of the number among those that pass is the one of that number
 has_number : {X : Type 0} (number : X → ℕ) (xs : List X) (n : ℕ) (p : X → Bool) (o : Option X) → find (λ x. number x == n) (filter p xs) ≡ o →
@@ -50,16 +44,11 @@ nothing_missing number xs h n p has =
     (each_both _ _ xs (numbered number p 1 xs h) (numbered number (λ y. number y == n) 1 xs h)))
   where
     turned : (a b : Bool) → (a && b) ≡ (b && a)
-    turned true true = refl
-    turned true false = refl
-    turned false true = refl
-    turned false false = refl
+    turned a k = grind arith
 
     named : (x : _) → at_number number (λ y. number y == n) xs (number x) ≡ (number x == n) →
         list_any (λ y. number y == number x) (rows_at number xs n) ≡ (number x == n)
-    named x alike =
-        any_filter (λ y. number y == n) (λ y. number y == number x) xs
-        ∙ list_any-same _ _ xs (λ y. turned (number y == n) (number y == number x)) ∙ alike
+    named l g = grind (arith, any_filter, list_any-same)
 
     passes : at_number number p xs n ≡ true
     passes = list_any-same _ _ xs (λ y. turned (number y == n) (p y)) ∙ sym (any_filter p (λ y. number y == n) xs) ∙ has
@@ -75,12 +64,7 @@ nothing_missing number xs h n p has =
 -- a number whose row is put where it is missing is put
 pub missing_put : {X : Type 0} (number : X → ℕ) (xs : List X) → Ascends number 1 xs → (n : ℕ) (p : X → Bool) →
     missing number (rows_at number xs) n (filter p xs) ≡ filter (with_number number xs n p) xs
-missing_put number xs h n p = by (find (λ x. number x == n) (filter p xs)) refl
-  where
-    by : (o : Option _) → find (λ x. number x == n) (filter p xs) ≡ o →
-        cond (is_some o) (filter p xs) (puts number (rows_at number xs n) (filter p xs)) ≡ filter (with_number number xs n p) xs
-    by (Some x) is = nothing_missing number xs h n p (sym (has_number number xs n p (Some x) is))
-    by None is = put_number number xs h n p
+missing_put number xs h n p = search (rules, nothing_missing, has_number, put_number)
 
 -- so are numbers in a row
 pub missings_put : {X : Type 0} (number : X → ℕ) (xs : List X) → Ascends number 1 xs → (ns : List ℕ) (p : X → Bool) →

@@ -1,18 +1,12 @@
 -- The rows that are enough for a call are a part for it.
-use Rattle.std.proofs.Common.{◌≡◌, ℕ, max, sym, subst}
-use Rattle.std.proofs.Math.Nat.{le-max_right}
+use Rattle.std.proofs.{Common.◌≡◌, Common.ℕ, Common.max, Common.sym, Common.subst, Math.Nat.le-max_right}
 use Rattle.std.specs.Prelude.{Result, Ok, Err, IfOk}
-use Rattle.desk_model.specs.History.{clock}
-use Rattle.desk_model.specs.Tables.{Tables, picture}
-use Rattle.desk_model.specs.declared.call.Call.{Call}
+use Rattle.desk_model.specs.{History.clock, Tables.Tables, Tables.picture, declared.call.Call.Call}
 use Rattle.model_laws.specs.Ordered.{IsOrdered}
 use Rattle.model_laws.proofs.Recorded.{tables_ordered}
 use Rattle.model_lives.specs.IsEnough.{IsEnoughFor, enough}
-use Rattle.model_lives.proofs.Answering.{pictures_stated, stated_for}
-use Rattle.model_lives.proofs.Work.{minimal_enough}
-use Rattle.store_api.specs.Sight.{ForTables, Reads, Sight}
-use Rattle.store_api.specs.Storing.{Loads}
-use Rattle.store_api.specs.declared.fault.StorageFault.{StorageFault}
+use Rattle.model_lives.proofs.{Answering.pictures_stated, Answering.stated_for, Work.minimal_enough}
+use Rattle.store_api.specs.{Sight.ForTables, Sight.Reads, Sight.Sight, Storing.Loads, declared.fault.StorageFault.StorageFault}
 
 module _ {S C : Type 0} (v : Sight S C) where
   -- what loads the rows that are enough loads a part

@@ -1,15 +1,13 @@
 -- What the orders that wait list, each place beside its authorization: the authorizations that are put are those that are worked on.
 use Rattle.std.proofs.Common.{◌≡◌, ◌++◌, ℕ, List, [], ◌∷◌, map, refl, sym, ap, ◌∙◌}
-use Rattle.std.specs.List.{filter, flat_map}
 use Rattle.std.proofs.lemmas.{List.map-append, Simd.map-map}
+use Rattle.std.specs.List.{filter, flat_map}
 use Rattle.desk_model.specs.{Derived.numbers_of, Kept.EachOf, Tables.Tables}
 use Rattle.desk_model.specs.declared.rows.{AuthorizationRow.AuthorizationRow, Listed.Listed, OrderRow.OrderRow}
 use Rattle.model_laws.proofs.Basics.{each, each-map, map-each}
 use Rattle.model_laws.specs.Ordered.{IsOrdered}
-use Rattle.model_lives.specs.{IsEnough.is_worked_on, Thinned.without_challenges}
-use Rattle.model_lives.specs.LookUps.{bare_authorizations, orders_processing}
-use Rattle.store_columns.specs.Flat.{listed_rows, owned_by}
-use Rattle.store_columns.specs.declared.columns.Owned.{Owned}
+use Rattle.model_lives.specs.{IsEnough.is_worked_on, Thinned.without_challenges, LookUps.bare_authorizations, LookUps.orders_processing}
+use Rattle.store_columns.specs.{Flat.listed_rows, Flat.owned_by, declared.columns.Owned.Owned}
 use Rattle.store_api.proofs.{Bare.worked_on, Missing.lacking_missings}
 use Rattle.store_api.specs.Needing.{lacking, missings}
 

@@ -1,9 +1,8 @@
 -- Look-ups one after the other.
 use Rattle.std.proofs.Common.{◌≡◌, ◌⊎◌, Result, Ok, Err, IfErr, IfOk, IsErrAnd, inl, inr, subst, sym}
 use Rattle.store_api.specs.Sight.{FailsBy, ForTables, Reads, Sight, Unchanged}
-use Rattle.store_api.specs.declared.fault.StorageFault.{StorageFault}
+use Rattle.store_api.specs.{declared.fault.StorageFault.StorageFault, Finding.LacksMemory}
 use Rattle.store_api.specs.declared.fault.StorageFault.TheVariants as fault
-use Rattle.store_api.specs.Finding.{LacksMemory}
 
 module _ {S C : Type 0} {v : Sight S C} where
   -- what was not read stands

@@ -1,9 +1,7 @@
 -- A book of rows that were put into tables.
-use Rattle.std.proofs.Common.{◌≡◌}
-use Rattle.desk_model.specs.Tables.{Tables}
-use Rattle.desk_model.specs.declared.rows.Meta.{Meta}
-use Rattle.store_api.specs.Finding.{AreRowsOf}
-use Rattle.store_api.specs.declared.all_rows.Rows.{Rows}
+use Rattle.std.proofs.Common.{◌≡◌, rules}
+use Rattle.desk_model.specs.{Tables.Tables, declared.rows.Meta.Meta}
+use Rattle.store_api.specs.{Finding.AreRowsOf, declared.all_rows.Rows.Rows}
 
 -- the tables of these rows
 abbrev pub book_with : Meta → Rows → Tables
@@ -12,5 +10,4 @@ book_with meta rows =
 
 -- the tables of rows that are those of tables
 pub book_are : (meta : Meta) (rows : Rows) (T : Tables) → meta ≡ T.meta → AreRowsOf T rows → book_with meta rows ≡ T
-book_are meta rows T same are = λ i.
-    record { meta = same i; nonces = are.nonces i; accounts = are.accounts i; authorizations = are.authorizations i; orders = are.orders i }
+book_are meta rows T same are = search rules

@@ -1,17 +1,11 @@
 -- Challenges that wait, and the authorizations under which they are put.
-use Rattle.std.proofs.Common.{◌≡◌, ℕ, List, [], ◌∷◌, ◌++◌, map, find, Some, None, refl, sym, ap, ◌∙◌, true, false, Bool, cond, append-nil, append_assoc}
-use Rattle.std.specs.Prelude.{◌==◌}
-use Rattle.std.specs.List.{filter}
+use Rattle.std.proofs.Common.{◌≡◌, ℕ, List, [], ◌∷◌, ◌++◌, map, find, Some, None, refl, sym, ap, ◌∙◌, Bool, append-nil, append_assoc, arith, rules}
 use Rattle.std.proofs.lemmas.Simd.{map-map}
-use Rattle.desk_model.specs.{Change.put, Tables.Tables}
-use Rattle.desk_model.specs.declared.rows.{AuthorizationRow.AuthorizationRow, ChallengeRow.ChallengeRow}
-use Rattle.model_laws.specs.Ordered.{Ascends, IsOrdered}
-use Rattle.model_laws.specs.Placing.{puts}
-use Rattle.model_laws.proofs.Basics.{each, eq_turn, map-each}
-use Rattle.model_laws.proofs.RowLists.{ascends_filter, ascends_map, puts_moved}
-use Rattle.model_lives.specs.IsEnough.{has_work}
-use Rattle.model_lives.specs.LookUps.{AreWaiting}
-use Rattle.model_lives.specs.Thinned.{waiting_challenges, with_challenges, without_challenges}
+use Rattle.std.specs.{Prelude.◌==◌, List.filter}
+use Rattle.desk_model.specs.{Change.put, Tables.Tables, declared.rows.AuthorizationRow.AuthorizationRow, declared.rows.ChallengeRow.ChallengeRow}
+use Rattle.model_laws.specs.{Ordered.Ascends, Ordered.IsOrdered, Placing.puts}
+use Rattle.model_laws.proofs.{Basics.each, Basics.map-each, RowLists.ascends_filter, RowLists.ascends_map, RowLists.puts_moved}
+use Rattle.model_lives.specs.{IsEnough.has_work, LookUps.AreWaiting, Thinned.waiting_challenges, Thinned.with_challenges, Thinned.without_challenges}
 use Rattle.model_lives.proofs.Lists.{filtered_each}
 use Rattle.store_api.proofs.Lacking.{rows_one}
 use Rattle.store_api.specs.Nesting.{joined, nested}
@@ -39,11 +33,7 @@ under_number n ps = map second (filter (is_under n) ps)
 
 -- its number stays
 joined_number : (c : ℕ × ChallengeRow) (r : AuthorizationRow) → (joined c r).number ≡ r.number
-joined_number c r = by (r.number == c.0)
-  where
-    by : (b : Bool) → (cond b (record r { challenges = r.challenges ++ c.1 ∷ [] }) r).number ≡ r.number
-    by true = refl
-    by false = refl
+joined_number c r = search rules
 
 -- so the numbers ascend as before
 pub joined_ascend : (c : ℕ × ChallengeRow) (rows : List AuthorizationRow) → Ascends (λ r. r.number) 1 rows → Ascends (λ r. r.number) 1 (map (joined c) rows)
@@ -65,12 +55,7 @@ put_joined c r rows up found =
 -- where there is none, nothing changes
 pub none_joined : (c : ℕ × ChallengeRow) (rows : List AuthorizationRow) → find (λ r. r.number == c.0) rows ≡ None → rows ≡ map (joined c) rows
 none_joined c [] none = refl
-none_joined c (r ∷ rs) none = by (r.number == c.0) none (none_joined c rs)
-  where
-    by : (b : Bool) → cond b (Some r) (find (λ r. r.number == c.0) rs) ≡ None → (find (λ r. r.number == c.0) rs ≡ None → rs ≡ map (joined c) rs) →
-        r ∷ rs ≡ cond b (record r { challenges = r.challenges ++ c.1 ∷ [] }) r ∷ map (joined c) rs
-    by true here ih = cc
-    by false later ih = ap (λ l. r ∷ l) (ih later)
+none_joined c (r ∷ rs) none = grind (arith, (none_joined c rs))
 
 -- ---- all of them
 
@@ -85,14 +70,7 @@ nested_own [] (r ∷ rs) = λ i. record r { challenges = sym (append-nil r.chall
 nested_own (c ∷ cs) rows = nested_own cs (map (joined c) rows) ∙ each_row rows
   where
     one : (r : AuthorizationRow) → with_own cs (joined c r) ≡ with_own (c ∷ cs) r
-    one r = by (r.number == c.0)
-        ∙ ap (λ b. record r { challenges = r.challenges ++ map second (cond b (c ∷ filter (is_under r.number) cs) (filter (is_under r.number) cs)) })
-        (eq_turn r.number c.0)
-      where
-        by : (b : Bool) → with_own cs (cond b (record r { challenges = r.challenges ++ c.1 ∷ [] }) r)
-            ≡ record r { challenges = r.challenges ++ map second (cond b (c ∷ filter (is_under r.number) cs) (filter (is_under r.number) cs)) }
-        by true = λ i. record r { challenges = append_assoc r.challenges (c.1 ∷ []) (under_number r.number cs) i }
-        by false = refl
+    one h = grind (arith, append_assoc)
 
     each_row : (rs : List AuthorizationRow) → map (with_own cs) (map (joined c) rs) ≡ map (with_own (c ∷ cs)) rs
     each_row [] = refl

@@ -1,10 +1,8 @@
 -- Look-ups whose rows are put into tables.
 use Rattle.std.specs.Prelude.{◌≡◌, [], Result, OnOk}
 use Rattle.desk_model.specs.Tables.{Tables}
-use Rattle.store_api.specs.Sight.{ForTables, Reads, Sight}
-use Rattle.store_api.specs.declared.fault.StorageFault.{StorageFault}
+use Rattle.store_api.specs.{Sight.ForTables, Sight.Reads, Sight.Sight, declared.fault.StorageFault.StorageFault, declared.all_rows.Rows.Rows}
 use Rattle.store_api.specs.declared.fault.StorageFault.TheVariants as fault
-use Rattle.store_api.specs.declared.all_rows.Rows.{Rows}
 
 -- a growth was refused
 abbrev pub LacksMemory : StorageFault → Type 0

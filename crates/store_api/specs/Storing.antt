@@ -1,14 +1,10 @@
 -- What a store promises of loading a part for a call, and of saving changes.
 use Rattle.std.specs.Prelude.{◌≡◌, ◌⊎◌, List, Option, Result, OnOk, IfOk, IfErr}
-use Rattle.desk_model.specs.{Entry.History, Legal.Legal, Change.applied}
-use Rattle.desk_model.specs.Tables.{Tables, picture}
-use Rattle.desk_model.specs.declared.{call.Call.Call, rows.Change.Change}
+use Rattle.desk_model.specs.{Entry.History, Legal.Legal, Change.applied, Tables.Tables, Tables.picture, declared.call.Call.Call, declared.rows.Change.Change}
 use Rattle.model_laws.specs.News.{AreKept}
-use Rattle.model_lives.specs.IsEnough.{IsEnoughFor}
-use Rattle.model_lives.specs.Thinned.{Thinning, thinned}
+use Rattle.model_lives.specs.{IsEnough.IsEnoughFor, Thinned.Thinning, Thinned.thinned}
 use Rattle.store_book.specs.IsBook.{IsStoredBook}
-use Rattle.store_api.specs.Sight.{Sight, Keeps, Reads, Unchanged}
-use Rattle.store_api.specs.declared.fault.StorageFault.{StorageFault}
+use Rattle.store_api.specs.{Sight.Sight, Sight.Keeps, Sight.Reads, Sight.Unchanged, declared.fault.StorageFault.StorageFault}
 use Rattle.store_api.specs.declared.fault.StorageFault.TheVariants as fault
 
 -- the changes fit these tables, one after the other: each row in the place of another keeps its children, and with all of them

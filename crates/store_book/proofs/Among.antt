@@ -1,10 +1,8 @@
 -- Numbers among others.
-use Rattle.std.proofs.Common.{◌≡◌, ◌<◌, ◌≤◌, ◌+◌, ◌⊎◌, inl, inr, ℕ, zero, suc, Bool, true, false, List, [], ◌∷◌, length, Ordering, nat_cmp}
-use Rattle.std.proofs.Common.{cond, Some, Result, Ok, Err, arith, refl}
-use Rattle.std.specs.Prelude.{◌==◌, find, get_or, HoldsAt, IsSome, is_ok}
-use Rattle.std.specs.List.Sorted.{IsBinarySearchResult}
-use Rattle.std.proofs.lemmas.Bool.{eq-eqb, eqb-true}
-use Rattle.std.proofs.lemmas.{List.Sorted.searched, Bool.Decides.nat_tests}
+use Rattle.std.proofs.Common.{◌≡◌, ◌<◌, ◌≤◌, ◌+◌, ◌⊎◌, inl, inr, ℕ, zero, suc, Bool, true, false, List, [], ◌∷◌, length, Ordering, nat_cmp, cond, Some, Result}
+use Rattle.std.proofs.Common.{Ok, Err, arith, refl, rules}
+use Rattle.std.proofs.{lemmas.Bool.eq-eqb, lemmas.Bool.eqb-true, lemmas.List.Sorted.searched, lemmas.Bool.Decides.nat_tests}
+use Rattle.std.specs.{Prelude.◌==◌, Prelude.find, Prelude.get_or, Prelude.HoldsAt, Prelude.IsSome, Prelude.is_ok, List.Sorted.IsBinarySearchResult}
 use Rattle.model_laws.specs.Ordered.{Ascends}
 use Rattle.store_book.specs.BookRows.{IsAmong, Rise}
 
@@ -15,16 +13,8 @@ even_numbers m n h = grind (arith, nat_tests)
 -- what ties with a number at some place is it
 pub among_at : (n : ℕ) (xs : List ℕ) (i : ℕ) → HoldsAt (λ y. nat_cmp y n ≡ Ordering.Equal) xs i → IsAmong xs n
 among_at n [] i h = absurd (let past = even_numbers (suc n) n (h (suc n)) in omega (arith, past))
-among_at n (x ∷ xs) zero h = first (x == n) (eq-eqb x n (even_numbers x n (h 0)))
-  where
-    first : (b : Bool) → b ≡ true → IsSome (cond b (Some x) (find (λ m. m == n) xs))
-    first true is = refl
-    first false is = absurd (cc is)
-among_at n (x ∷ xs) (suc i) h = later (x == n) (among_at n xs i h)
-  where
-    later : (b : Bool) → IsAmong xs n → IsSome (cond b (Some x) (find (λ m. m == n) xs))
-    later true among = refl
-    later false among = among
+among_at n (x ∷ xs) zero h = grind (arith, (eq-eqb x n (even_numbers x n (h 0))))
+among_at n (x ∷ xs) (suc i) h = grind (arith, (among_at n xs i h))
 
 -- ---- numbers that rise
 
@@ -59,10 +49,7 @@ has_place (x ∷ xs) n among = by (x == n) refl (has_place xs n) among
 
 -- one of two numbers is below, or the other is not above
 sides : (a b : ℕ) → (a < b) ⊎ (b ≤ a)
-sides zero zero = inr (omega arith)
-sides zero (suc b) = inl (omega arith)
-sides (suc a) zero = inr (omega arith)
-sides (suc a) (suc b) = elim (sides a b) [ inl less ↦ inl (omega (arith, less)) | inr more ↦ inr (omega (arith, more)) ]
+sides a b = search rules
 
 -- a search finds it where they rise
 pub search_finds : (xs : List ℕ) (n : ℕ) (r : Result ℕ ℕ) → IsBinarySearchResult (λ y. nat_cmp y n) xs r → Rise xs → IsAmong xs n → is_ok r ≡ true

@@ -1,13 +1,9 @@
 -- What a sort tells of repeated keys, and when the rows of these keys have different ones.
-use Rattle.std.proofs.Common.{◌≡◌, ℕ, ◌+◌, Bool, true, false, List, [], ◌∷◌, map, get_or, refl, sym, ap, ◌∙◌, subst, arith}
-use Rattle.std.proofs.Common.{Ordering, is_lt, is_eq, nat_cmp}
-use Rattle.std.specs.Prelude.{◌≢◌, ◌↔◌, IsTrue}
-use Rattle.std.specs.Cmp.{IsTotalOrder}
-use Rattle.std.specs.List.{AllByRecursion, IsAllAdjacentAnswer, IsDistinct}
-use Rattle.std.specs.List.Sorted.{IsSorted, IsStrictlySortedBy, IsPermutation}
-use Rattle.std.specs.Ordering.{eq_by_cmp, ordering_reverse}
-use Rattle.std.proofs.lemmas.{Bool.Decides.nat_tests, List.Sorted.IsPermutation-sym}
+use Rattle.std.proofs.Common.{◌≡◌, ℕ, ◌+◌, Bool, true, false, List, [], ◌∷◌, map, get_or, refl, sym, ◌∙◌, subst, arith, Ordering, is_lt, is_eq, nat_cmp, rules}
 use Rattle.std.proofs.lemmas.Map.Keys.{IsDistinct-from_sorted, IsDistinct-IsPermutation, Less-from_sorted, sorted_from_all_adjacent}
+use Rattle.std.proofs.{lemmas.Bool.Decides.nat_tests, lemmas.List.Sorted.IsPermutation-sym}
+use Rattle.std.specs.{Prelude.◌≢◌, Prelude.◌↔◌, Prelude.IsTrue, Cmp.IsTotalOrder, List.AllByRecursion, List.IsAllAdjacentAnswer, List.IsDistinct}
+use Rattle.std.specs.{List.Sorted.IsSorted, List.Sorted.IsStrictlySortedBy, List.Sorted.IsPermutation, Ordering.eq_by_cmp}
 use Rattle.desk_model.specs.Kept.{EachOf}
 use Rattle.model_laws.specs.Distinct.{Distinct}
 use Rattle.store_book.proofs.SortedLists.{equal_flips, strictly-from_distinct}
@@ -15,18 +11,11 @@ use Rattle.model_laws.proofs.Distinctness.{distinct-map, map-distinct}
 
 -- an order that says less
 less : (r : Ordering) → is_lt r ≡ true → r ≡ Ordering.Less
-less Ordering.Less h = refl
-less Ordering.Equal h = cc
-less Ordering.Greater h = cc
+less r h = search rules
 
 -- an element is equal to itself
 pub equal_self : {X : Type 0} (c : X → X → Ordering) → IsTotalOrder c → (x : X) → is_eq (c x x) ≡ true
-equal_self c o x = by (c x x) (o.antisymm x x)
-  where
-    by : (r : Ordering) → r ≡ ordering_reverse r → is_eq r ≡ true
-    by Ordering.Less e = cc
-    by Ordering.Equal e = refl
-    by Ordering.Greater e = cc
+equal_self c o x = search rules
 
 -- neighbours that each are below the next tell that no key stands twice
 rising : {X : Type 0} (c : X → X → Ordering) → IsTotalOrder c → (xs : List X) → IsAllAdjacentAnswer (λ x y b. b ≡ is_lt (c x y)) xs true
@@ -39,8 +28,7 @@ rising c o (x ∷ xs) h = sorted_from_all_adjacent o (x ∷ xs) x (λ k lt. less
 not_rising : {X : Type 0} (c : X → X → Ordering) → IsTotalOrder c → (xs : List X)
     → IsAllAdjacentAnswer (λ x y b. b ≡ is_lt (c x y)) xs false → IsStrictlySortedBy c xs → ⊥
 not_rising c o [] h up = absurd (omega (arith, h.1))
-not_rising c o (x ∷ xs) h up =
-    let clash : false ≡ true = h.2 x ∙ ap is_lt (Less-from_sorted c (x ∷ xs) h.0 (h.0 + 1) x up (omega arith) h.1) in cc
+not_rising c o (x ∷ xs) h up = grind (arith, (Less-from_sorted c (x ∷ xs) h.0 (h.0 + 1) x up (omega arith) h.1))
 
 -- sorted keys tell whether one stands twice
 pub distinct-answer : {X : Type 0} (c : X → X → Ordering) → IsTotalOrder c → (xs ys : List X) → IsPermutation xs ys → IsSorted c ys → (r : Bool) →
@@ -68,8 +56,7 @@ all-apart e value same k [] h = tt
 all-apart e value same k (l ∷ ls) h = (by (e k l) refl, all-apart e value same k ls h.1)
   where
     by : (b : Bool) → e k l ≡ b → b ≡ false
-    by true is = absurd (h.0 (same k l is))
-    by false is = refl
+    by b g = grind arith
 
 distinct-values : {K Y : Type 0} (e : K → K → Bool) (value : K → Y) → ((k l : K) → value k ≡ value l → e k l ≡ true) → (ks : List K)
     → IsDistinct e ks → Distinct value ks

@@ -1,29 +1,22 @@
 -- Rows in the order of their keys are those of a book.
-use Rattle.std.proofs.Common.{◌≡◌, ◌<◌, ◌≤◌, ◌+◌, ℕ, Bool, true, false, cond, List, [], ◌∷◌, map, filter, refl, sym, ap, subst, ◌∙◌, arith}
-use Rattle.std.proofs.Common.{nat_cmp}
-use Rattle.std.specs.Prelude.{◌==◌, IsSome}
-use Rattle.std.specs.{List.Sorted.IsPermutation, Cmp.nat_cmp_total, Ordering.eq_by_cmp}
-use Rattle.std.proofs.lemmas.{Bool.eqb-true, List.map-id, Map.Keys.IsDistinct-IsPermutation}
-use Rattle.std.proofs.lemmas.List.Sorted.{IsPermutation-map, IsPermutation-refl}
+use Rattle.std.proofs.Common.{◌≡◌, ◌<◌, ◌≤◌, ◌+◌, ℕ, Bool, true, cond, List, [], ◌∷◌, map, filter, refl, sym, ap, subst, arith, nat_cmp}
+use Rattle.std.proofs.lemmas.{List.map-id, Map.Keys.IsDistinct-IsPermutation, List.Sorted.IsPermutation-map, List.Sorted.IsPermutation-refl}
+use Rattle.std.specs.{Prelude.◌==◌, Prelude.IsSome, List.Sorted.IsPermutation, Cmp.nat_cmp_total, Ordering.eq_by_cmp}
 use Rattle.store_columns.specs.Flat.{answer_key, bare_row, challenge_rows, key_rows}
 use Rattle.store_columns.specs.Limits.{AreStored, IsStoredAuthorization, IsStoredListed, IsStoredOrder}
 use Rattle.store_columns.specs.declared.columns.{BareChallenge.BareChallenge, FlatRows.FlatRows, Owned.Owned}
-use Rattle.model_laws.specs.Distinct.{Distinct}
-use Rattle.model_laws.specs.Ordered.{Ascends, Below}
-use Rattle.model_laws.proofs.Basics.{each, each-map, each_all, each_of_map}
-use Rattle.model_laws.proofs.Distinctness.{ascends_distinct, distinct-map, map-distinct}
-use Rattle.model_laws.proofs.RowLists.{ascends_filter, ascends_map}
-use Rattle.desk_model.specs.{Kept.EachOf, Tables.Tables}
+use Rattle.model_laws.specs.{Distinct.Distinct, Ordered.Ascends, Ordered.Below}
+use Rattle.model_laws.proofs.{Basics.each, Basics.each-map, Basics.each_all, Basics.each_of_map, Distinctness.ascends_distinct, Distinctness.distinct-map}
+use Rattle.model_laws.proofs.{Distinctness.map-distinct, RowLists.ascends_filter, RowLists.ascends_map}
 use Rattle.desk_model.specs.Questions.{account_on, authorization_on}
-use Rattle.desk_model.specs.declared.rows.{AccountRow.AccountRow, AuthorizationRow.AuthorizationRow, ChallengeRow.ChallengeRow, Listed.Listed, Meta.Meta}
-use Rattle.desk_model.specs.declared.rows.{OrderRow.OrderRow}
+use Rattle.desk_model.specs.{Kept.EachOf, Tables.Tables, declared.rows.AccountRow.AccountRow, declared.rows.AuthorizationRow.AuthorizationRow}
+use Rattle.desk_model.specs.{declared.rows.ChallengeRow.ChallengeRow, declared.rows.Listed.Listed, declared.rows.Meta.Meta, declared.rows.OrderRow.OrderRow}
 use Rattle.store_book.specs.{FaultNumbers.challenges_of, Joining.joined, Nesting.IsNestOf}
 use Rattle.store_book.specs.IsBook.{AreDistinct, AreInOrder, HaveReferences, IsBookOf, KeepCounters, ListsFound}
-use Rattle.store_book.proofs.Distinctness.{distinct-rows, equal-numbers, numbers-equal, values-distinct}
-use Rattle.store_book.proofs.{SortedLists.equal_flips, SoundBooks.all_numbers}
-use Rattle.store_book.proofs.{Joins.joined_has, Swapped.picked-permutation}
 use Rattle.store_book.specs.BookRows.{AreBookRows, IsAmong, PlacesRise, RowsAreBooks}
+use Rattle.store_book.proofs.Distinctness.{distinct-rows, equal-numbers, numbers-equal, values-distinct}
 use Rattle.store_book.proofs.Owners.{each_of_owner, found_among, is_of, nests_of, rows_of, with_rows}
+use Rattle.store_book.proofs.{SortedLists.equal_flips, SoundBooks.all_numbers, Joins.joined_has, Swapped.picked-permutation}
 
 -- ---- the rows of one owner
 
@@ -40,14 +33,7 @@ places_ascend n k (r ∷ rs) low up = by (r.owner == n) refl (λ k low. places_a
     by : (b : Bool) → (r.owner == n) ≡ b
         → ((k : ℕ) → EachOf (λ s. s.owner ≡ n → k ≤ s.row.place) rs → Ascends (λ l. l.place) k (rows_of n rs))
         → Ascends (λ l. l.place) k (map (λ r. r.row) (cond b (r ∷ filter (is_of n) rs) (filter (is_of n) rs)))
-    by true e rest =
-        let same : r.owner ≡ n = eqb-true r.owner n e in (
-          low.0 same,
-          rest (r.row.place + 1)
-              (each (λ s. s.owner ≡ r.owner → r.row.place < s.row.place) (λ s. s.owner ≡ n → r.row.place + 1 ≤ s.row.place) rs
-              (λ s above is. let past = above (is ∙ sym same) in omega (arith, past)) up.0),
-        )
-    by false e rest = rest k low.1
+    by b h g = grind (arith, each)
 
 -- rows ascend as their images do
 unmapped_up : {X Y : Type 0} (f : X → Y) (key : Y → ℕ) (n : ℕ) (xs : List X) → Ascends key n (map f xs) → Ascends (λ x. key (f x)) n xs

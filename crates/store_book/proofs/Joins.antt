@@ -1,14 +1,12 @@
 -- Challenges joined with the keys of their answers have these rows, and no others have.
-use Rattle.std.proofs.Common.{◌≡◌, ◌≢◌, ◌⊎◌, inl, inr, ℕ, List, [], ◌∷◌, map, Option, Some, None, refl, sym, ap, subst, ◌∙◌}
+use Rattle.std.proofs.Common.{◌≡◌, ◌≢◌, ◌⊎◌, inl, inr, ℕ, List, [], ◌∷◌, map, Option, Some, None, refl, sym, ap, subst, ◌∙◌, arith}
 use Rattle.std.proofs.lemmas.List.Sorted.{All-permutation, IsPermutation-sym, IsPermutation-trans}
-use Rattle.desk_model.specs.Kept.{EachOf}
-use Rattle.std.specs.List.{AllByRecursion, cons_option}
 use Rattle.std.proofs.lemmas.List.Elements.{All-from_recursion, recursion_from_All}
-use Rattle.std.specs.List.Sorted.{IsPermutation}
+use Rattle.desk_model.specs.{Kept.EachOf, declared.objects.Answer.Answer, declared.rows.ChallengeRow.ChallengeRow}
+use Rattle.std.specs.{List.AllByRecursion, List.cons_option, List.Sorted.IsPermutation}
 use Rattle.store_columns.specs.Flat.{answer_key, bare_row, key_rows}
 use Rattle.store_columns.specs.declared.columns.{AnswerKey.AnswerKey, BareChallenge.BareChallenge, Owned.Owned}
 use Rattle.model_laws.specs.Distinct.{Distinct}
-use Rattle.desk_model.specs.declared.{objects.Answer.Answer, rows.ChallengeRow.ChallengeRow}
 use Rattle.store_book.specs.{BookRows.AreKeys, BookRows.answered_numbers, Joining.joined}
 use Rattle.store_book.proofs.{KeyedRows.key_numbers, SortedLists.or_passes, Swapped.lifted, Swapped.picked-permutation}
 
@@ -20,38 +18,17 @@ number c = c.row.number
 abbrev answered_so : Owned ChallengeRow → Option Answer → Owned ChallengeRow
 answered_so c o = record c { row = record c.row { answered = o } }
 
--- a bare challenge that was answered at this moment
-abbrev bare_so : Owned BareChallenge → Option ℕ → Owned BareChallenge
-bare_so b o = record b { row = record b.row { answered = o } }
-
 -- challenges joined with their own keys are as they were
 joined_back : (cs : List (Owned ChallengeRow)) → joined (map bare_row cs) (key_rows cs) ≡ cs
 joined_back [] = refl
-joined_back (c ∷ cs) = by c.row.answered (joined_back cs)
-  where
-    by : (o : Option Answer) → joined (map bare_row cs) (key_rows cs) ≡ cs
-        → joined (bare_row (answered_so c o) ∷ map bare_row cs) (cons_option (answer_key (answered_so c o).row) (key_rows cs)) ≡ answered_so c o ∷ cs
-    by None before = ap (λ l. answered_so c None ∷ l) before
-    by (Some a) before = ap (λ l. answered_so c (Some a) ∷ l) before
+joined_back (c ∷ cs) = grind (arith, (joined_back cs))
 
 -- where there is a key for each challenge that was answered, in their order, those that are joined have these rows
 pub joined_has : (cs : List (Owned BareChallenge)) (ks : List AnswerKey) → AreKeys (answered_numbers cs) ks
     → (map bare_row (joined cs ks) ≡ cs) × (key_rows (joined cs ks) ≡ ks)
 joined_has [] [] same = (refl, refl)
 joined_has [] (k ∷ ks) same = absurd (cc same)
-joined_has (c ∷ cs) ks same = by c.row.answered (joined_has cs) ks same
-  where
-    by : (o : Option ℕ)
-        → ((ks : List AnswerKey) → AreKeys (answered_numbers cs) ks → (map bare_row (joined cs ks) ≡ cs) × (key_rows (joined cs ks) ≡ ks))
-        → (ks : List AnswerKey) → AreKeys (answered_numbers (bare_so c o ∷ cs)) ks
-        → (map bare_row (joined (bare_so c o ∷ cs) ks) ≡ bare_so c o ∷ cs) × (key_rows (joined (bare_so c o ∷ cs) ks) ≡ ks)
-    by None behind ks same = let rest = behind ks same in ((λ i. bare_so c None ∷ rest.0 i), rest.1)
-    by (Some date) behind [] same = absurd (cc same)
-    by (Some date) behind (k ∷ ks) same =
-        let first : k.challenge ≡ c.row.number = cc same in
-        let others : AreKeys (answered_numbers cs) ks = cc same in
-        let rest = behind ks others in
-        ((λ i. bare_so c (Some date) ∷ rest.0 i), (λ i. (record { challenge = sym first i; thumb = k.thumb }) ∷ rest.1 i))
+joined_has (c ∷ cs) ks same = grind (arith, (joined_has cs))
 
 -- ---- no other challenges have the same rows
 
@@ -115,8 +92,7 @@ keys_distinct (c ∷ cs) h = by c.row.answered (keys_distinct cs h.1) (others cs
 
     by : (o : Option Answer) → Distinct (λ k. k.challenge) (key_rows cs) → EachOf (λ k. c.row.number ≢ k.challenge) (key_rows cs)
         → Distinct (λ k. k.challenge) (cons_option (answer_key (answered_so c o).row) (key_rows cs))
-    by None rest apart = rest
-    by (Some a) rest apart = (apart, rest)
+    by l g e = grind arith
 
 -- challenges with the same rows, none of whose numbers stands twice, stand in any order
 pub same_rows : (ones others : List (Owned ChallengeRow)) → Distinct number ones → IsPermutation (map bare_row others) (map bare_row ones)

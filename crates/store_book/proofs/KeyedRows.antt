@@ -1,25 +1,19 @@
 -- The rows of a book that stand by key keep their counters and find what they refer to.
-use Rattle.std.proofs.Common.{◌≡◌, ◌<◌, ◌≤◌, ◌+◌, inl, inr, ℕ, List, [], ◌∷◌, map, Option, Some, None, All, refl, sym, ap, subst, ◌∙◌, arith}
-use Rattle.std.specs.Prelude.{◌==◌, find, IsSome, option_map}
-use Rattle.std.specs.List.{cons_option, flat_map}
-use Rattle.std.specs.List.Sorted.{IsPermutation}
-use Rattle.std.proofs.lemmas.List.Elements.{All-cons, All-head, All-nil, All-tail}
-use Rattle.std.proofs.lemmas.List.Sorted.{All-permutation, IsPermutation-map, IsPermutation-sym, IsPermutation-trans}
-use Rattle.std.proofs.lemmas.Simd.{map-map}
+use Rattle.std.proofs.Common.{◌≡◌, ◌<◌, ◌≤◌, ◌+◌, ℕ, List, [], ◌∷◌, map, All, refl, sym, ap, subst, ◌∙◌, arith, rules}
+use Rattle.std.proofs.lemmas.{List.Elements.All-cons, List.Elements.All-head, List.Elements.All-nil, List.Elements.All-tail, List.Sorted.All-permutation}
+use Rattle.std.proofs.lemmas.{List.Sorted.IsPermutation-map, List.Sorted.IsPermutation-sym, List.Sorted.IsPermutation-trans, Simd.map-map}
+use Rattle.std.specs.{Prelude.◌==◌, Prelude.find, Prelude.IsSome, List.flat_map, List.Sorted.IsPermutation}
 use Rattle.store_columns.specs.Flat.{bare_row, challenge_rows, key_rows, listed_rows, owned_by, without_challenges, without_listed}
 use Rattle.store_columns.specs.declared.columns.{AnswerKey.AnswerKey, BareChallenge.BareChallenge, FlatRows.FlatRows, Owned.Owned}
 use Rattle.model_laws.specs.Ordered.{Ascends, IsTable}
 use Rattle.model_laws.proofs.Basics.{each, each-append, each-map, each_all, find-map}
 use Rattle.model_laws.proofs.RowLists.{ascends_found, ascends_from, ascends_map}
-use Rattle.desk_model.specs.{Kept.EachOf, Tables.Tables}
 use Rattle.desk_model.specs.Questions.{account_on, authorization_on}
-use Rattle.desk_model.specs.declared.{objects.Answer.Answer, rows.AccountRow.AccountRow, rows.AuthorizationRow.AuthorizationRow}
-use Rattle.desk_model.specs.declared.{rows.ChallengeRow.ChallengeRow, rows.Listed.Listed, rows.OrderRow.OrderRow}
-use Rattle.store_book.specs.BookRows.{AreAccounts, AreAuthorizations, AreBookRows, AreChallenges, AreListed, AreOrders, IsAmong, PlacesRise}
-use Rattle.store_book.specs.BookRows.{answered_number, answered_numbers}
-use Rattle.store_book.specs.ByKey.{AreByKey, BooksHaveRows}
-use Rattle.store_book.specs.IsBook.{IsBookOf}
-use Rattle.store_book.specs.Passing.{IsPlacedNext, PlacedFrom}
+use Rattle.desk_model.specs.{Kept.EachOf, Tables.Tables, declared.rows.AccountRow.AccountRow, declared.rows.AuthorizationRow.AuthorizationRow}
+use Rattle.desk_model.specs.{declared.rows.ChallengeRow.ChallengeRow, declared.rows.Listed.Listed, declared.rows.OrderRow.OrderRow}
+use Rattle.store_book.specs.BookRows.{AreAccounts, AreAuthorizations, AreBookRows, AreChallenges, AreListed, AreOrders, IsAmong, PlacesRise, answered_number}
+use Rattle.store_book.specs.BookRows.{answered_numbers}
+use Rattle.store_book.specs.{ByKey.AreByKey, ByKey.BooksHaveRows, IsBook.IsBookOf, Passing.IsPlacedNext, Passing.PlacedFrom}
 use Rattle.store_book.proofs.{OrderedRows.same_ascending, SortedLists.same_single, Swapped.picked-permutation}
 
 -- ---- what holds of rows in some order
@@ -50,21 +44,11 @@ none_zero number n (x ∷ xs) some up = let first = up.0 in (omega (arith, some,
 
 -- the number of a row that is found is among theirs
 among_found : {X : Type 0} (number : X → ℕ) (n : ℕ) (xs : List X) → IsSome (find (λ x. number x == n) xs) → IsAmong (map number xs) n
-among_found {X} number n xs found = subst IsSome (sym (find-map (λ m. m == n) number xs)) (by (find (λ x. number x == n) xs) found)
-  where
-    by : (o : Option X) → IsSome o → IsSome (option_map number o)
-    by None h = absurd (cc h)
-    by (Some x) h = refl
+among_found {X} number n xs found = search (rules, find-map)
 
 -- so it is of each of rows that ascend
 all_among : {X : Type 0} (number : X → ℕ) (n : ℕ) (xs : List X) → Ascends number n xs → EachOf (λ x. IsAmong (map number xs) (number x)) xs
-all_among number n xs up =
-    each (λ x. find (λ y. number y == number x) xs ≡ Some x) (λ x. IsAmong (map number xs) (number x)) xs
-    (λ x found. among_found number (number x) xs (there (find (λ y. number y == number x) xs) x found)) (ascends_found number n xs up)
-  where
-    there : {X : Type 0} (o : Option X) (x : X) → o ≡ Some x → IsSome o
-    there None x h = absurd (cc h)
-    there (Some y) x h = refl
+all_among number n xs up = search (rules, each, among_found, ascends_found)
 
 -- ---- rows under others
 
@@ -78,8 +62,7 @@ each_child number children Q (p ∷ ps) h =
 
 -- what comes behind a place of a later order is of a later one
 later : (n order place : ℕ) (s : Owned Listed) → n < order → IsPlacedNext order place s.owner s.row.place → n < s.owner
-later n order place s low (inl next) = omega (arith, next, low)
-later n order place s low (inr next) = let is = next.0 in omega (arith, is, low)
+later n order place s h k = search rules
 
 past : (n k order place : ℕ) (rows : List (Owned Listed)) → n < order → PlacedFrom order place rows → EachOf (λ s. s.owner ≡ n → k < s.row.place) rows
 past n k order place [] low placed = tt
@@ -96,12 +79,7 @@ behind n k place (s ∷ rows) low placed =
     by : IsPlacedNext n place s.owner s.row.place → (n < s.owner → EachOf (λ s. s.owner ≡ n → k < s.row.place) rows)
         → (k ≤ s.row.place → PlacedFrom n s.row.place rows → EachOf (λ s. s.owner ≡ n → k < s.row.place) rows)
         → EachOf (λ s. s.owner ≡ n → k < s.row.place) (s ∷ rows)
-    by (inl next) others own = (λ same. absurd (omega (arith, next, same)), others next)
-    by (inr next) others own =
-        let at = next.1 in (
-          λ same. omega (arith, at, low),
-          own (omega (arith, at, low)) (subst (λ m. PlacedFrom m s.row.place rows) next.0 placed.1),
-        )
+    by h l g = grind arith
 
 -- places that come one behind the other rise
 places_rise : (order place : ℕ) (rows : List (Owned Listed)) → PlacedFrom order place rows → PlacesRise rows
@@ -114,23 +92,12 @@ places_rise order place (r ∷ rows) placed =
 -- their numbers ascend with those of all
 answered_up : (n : ℕ) (cs : List (Owned BareChallenge)) → Ascends (λ c. c.row.number) n cs → Ascends (λ m. m) n (answered_numbers cs)
 answered_up n [] up = tt
-answered_up n (c ∷ cs) up = by c.row.answered (answered_up (c.row.number + 1) cs up.1)
-  where
-    by : {D : Type 0} (o : Option D) → Ascends (λ m. m) (c.row.number + 1) (answered_numbers cs)
-        → Ascends (λ m. m) n (cons_option (option_map (λ _. c.row.number) o) (answered_numbers cs))
-    by None rest = let first = up.0 in ascends_from (λ m. m) n (c.row.number + 1) (answered_numbers cs) (omega (arith, first)) rest
-    by (Some date) rest = (up.0, rest)
+answered_up n (c ∷ cs) up = grind (arith, ascends_from, (answered_up (c.row.number + 1) cs up.1))
 
 -- and are those of the keys of their answers
 pub key_numbers : (cs : List (Owned ChallengeRow)) → map (λ k. k.challenge) (key_rows cs) ≡ answered_numbers (map bare_row cs)
 key_numbers [] = refl
-key_numbers (c ∷ cs) = by c.row.answered (key_numbers cs)
-  where
-    by : (o : Option Answer) → map (λ k. k.challenge) (key_rows cs) ≡ answered_numbers (map bare_row cs)
-        → map (λ k. k.challenge) (cons_option (option_map (λ a. record { challenge = c.row.number; thumb = a.thumb }) o) (key_rows cs))
-        ≡ cons_option (option_map (λ _. c.row.number) (option_map (λ a. a.date) o)) (answered_numbers (map bare_row cs))
-    by None rest = rest
-    by (Some answer) rest = ap (λ ns. c.row.number ∷ ns) rest
+key_numbers (c ∷ cs) = grind (arith, (key_numbers cs))
 
 -- ---- the rows of a book
 

@@ -1,12 +1,10 @@
 -- Rows that are nested under their owners are what their parents and their children make.
 use Rattle.std.proofs.Common.{◌≡◌, ℕ, ◌+◌, ◌<◌, ◌≤◌, cond, List, [], ◌∷◌, ◌++◌, map, refl, ap, ◌∙◌, arith}
-use Rattle.std.specs.List.{AllByRecursion}
 use Rattle.std.proofs.lemmas.Bool.{eq-eqb}
+use Rattle.std.specs.List.{AllByRecursion}
 use Rattle.model_laws.specs.Ordered.{Ascends}
-use Rattle.store_columns.specs.declared.columns.Owned.{Owned}
-use Rattle.store_columns.specs.Flat.{owned_by}
+use Rattle.store_columns.specs.{declared.columns.Owned.Owned, Flat.owned_by}
 use Rattle.store_book.specs.Nesting.{IsNesting, child_rows, first_of, behind, nested}
-use Rattle.model_laws.proofs.Basics.{more_differs}
 
 -- an owner's row before others is the first of its rows
 pub first-front : {T : Type 0} (n : ℕ) (t : T) (rs : List (Owned T)) → first_of n ((record { owner = n; row = t }) ∷ rs) ≡ t ∷ first_of n rs
@@ -23,9 +21,7 @@ AreAbove n rs = AllByRecursion (λ r. n < r.owner) rs
 -- none of them is the lower owner's
 none-own : {T : Type 0} (n : ℕ) (rs : List (Owned T)) → AreAbove n rs → (first_of n rs ≡ []) × (behind n rs ≡ rs)
 none-own n [] h = (refl, refl)
-none-own {T} n (r ∷ rs) h =
-    let other = more_differs r.owner n h.0 in
-    (ap (λ b. cond b (r.row ∷ first_of n rs) []) other, ap (λ b. cond b (behind n rs) (r ∷ rs)) other)
+none-own {T} n (r ∷ rs) h = grind arith
 
 -- the first rows of an owner are its own, before rows of higher owners
 first-own : {T : Type 0} (n : ℕ) (ts : List T) (rs : List (Owned T)) → AreAbove n rs
@@ -51,9 +47,7 @@ children-above {P} {T} number children k n (p ∷ ps) lt h =
 pub nested_up : {P T : Type 0} (number : P → ℕ) (children : P → List T) (with_children : P → List T → P) → IsNesting number children with_children →
     (n : ℕ) (ps : List P) (rs : List (Owned T)) → Ascends number n ps → Ascends number n (nested number with_children ps rs)
 nested_up number children with_children laws n [] rs up = tt
-nested_up number children with_children laws n (p ∷ ps) rs up =
-    let kept = laws.number_kept p (first_of (number p) rs) in
-    (rw kept up.0, rw kept (nested_up number children with_children laws (number p + 1) ps (behind (number p) rs) up.1))
+nested_up number children with_children laws n (p ∷ ps) rs up = grind (arith, (nested_up number children with_children laws (number p + 1) ps (behind (number p) rs) up.1))
 
 -- rows by number are what their parents and their children make
 pub nested-flat : {P T : Type 0} (number : P → ℕ) (children : P → List T) (with_children : P → List T → P) → IsNesting number children with_children →

@@ -1,9 +1,8 @@
 -- Rows that stand by number rise strictly, and so do their children by owner and number.
-use Rattle.std.proofs.Common.{◌≡◌, ℕ, ◌+◌, ◌<◌, ◌≤◌, List, [], ◌∷◌, ◌++◌, nat_cmp, ap, ◌∙◌, arith, Ordering}
-use Rattle.std.specs.Cmp.{IsTotalOrder, nat_cmp_total, on_total, then_total}
-use Rattle.std.specs.{List.AllByRecursion, Ordering.ordering_then}
-use Rattle.std.specs.List.Sorted.{IsStrictlySortedBy, IsPermutation}
+use Rattle.std.proofs.Common.{◌≡◌, ℕ, ◌+◌, ◌<◌, ◌≤◌, List, [], ◌∷◌, ◌++◌, nat_cmp, ap, ◌∙◌, arith, Ordering, rules}
 use Rattle.std.proofs.lemmas.Bool.Decides.{nat_tests}
+use Rattle.std.specs.Cmp.{IsTotalOrder, nat_cmp_total, on_total, then_total}
+use Rattle.std.specs.{List.AllByRecursion, Ordering.ordering_then, List.Sorted.IsStrictlySortedBy, List.Sorted.IsPermutation}
 use Rattle.desk_model.specs.Kept.{EachOf}
 use Rattle.model_laws.specs.Ordered.{Ascends}
 use Rattle.store_columns.specs.Flat.{owned_by}
@@ -58,11 +57,7 @@ above_owners : {P T : Type 0} (number : P → ℕ) (children : P → List T) (ch
     → Ascends number n ps →
     AllByRecursion (λ y. by_owner child_number (record { owner = k; row = t }) y ≡ Ordering.Less) (child_rows number children ps)
 above_owners number children child_number k t n [] lt h = tt
-above_owners number children child_number k t n (p ∷ ps) lt h =
-    let first : n ≤ number p = h.0 in
-    all-append _ (owned_by (number p) (children p)) (child_rows number children ps)
-    (above_owner child_number k t (number p) (children p) (omega arith))
-    (above_owners number children child_number k t (number p + 1) ps (omega arith) h.1)
+above_owners number children child_number k t n (p ∷ ps) lt h = grind (arith, all-append, (above_owners number children child_number k t (number p + 1) ps (omega arith) h.1), (above_owner child_number k t (number p) (children p) (omega arith)))
 
 all_above_owners : {P T : Type 0} (number : P → ℕ) (children : P → List T) (child_number : T → ℕ) (k : ℕ) (ts : List T) (n : ℕ)
     (ps : List P) → k < n → Ascends number n ps →
@@ -91,13 +86,8 @@ pub strictly-children : {P T : Type 0} (number : P → ℕ) (children : P → Li
     EachOf (λ p. Ascends child_number 1 (children p)) ps → IsStrictlySortedBy (by_owner child_number) (child_rows number children ps)
 unfolding IsStrictlySortedBy
 strictly-children number children child_number n [] h own = tt
-strictly-children number children child_number n (p ∷ ps) h own =
-    strictly-append (by_owner child_number) (owned_by (number p) (children p)) (child_rows number children ps)
-    (strictly-siblings child_number (number p) 1 (children p) own.0)
-    (strictly-children number children child_number (number p + 1) ps h.1 own.1)
-    (all_above_owners number children child_number (number p) (children p) (number p + 1) ps (omega arith) h.1)
+strictly-children number children child_number n (p ∷ ps) h own = grind (arith, strictly-append, strictly-siblings, (strictly-children number children child_number (number p + 1) ps h.1 own.1), (all_above_owners number children child_number (number p) (children p) (number p + 1) ps (omega arith) h.1))
 
 -- rows by number with the same elements are equal
 pub same_ascending : {X : Type 0} (number : X → ℕ) (m n : ℕ) (xs ys : List X) → Ascends number m xs → Ascends number n ys → IsPermutation xs ys → xs ≡ ys
-same_ascending number m n xs ys up down permuted =
-    same_strictly (by_number number) (by_number-total number) xs ys (strictly-from_ascends number m xs up) (strictly-from_ascends number n ys down) permuted
+same_ascending number m n xs ys up down permuted = search (rules, same_strictly, by_number-total, strictly-from_ascends)

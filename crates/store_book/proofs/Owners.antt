@@ -1,20 +1,13 @@
 -- Rows under their owners, in whatever order the owners' numbers stand in them.
-use Rattle.std.proofs.Common.{◌≡◌, ◌≢◌, ℕ, Bool, true, false, cond, List, [], ◌∷◌, ◌++◌, map, filter, Option, Some, None, refl, sym, ap, subst, ◌∙◌}
-use Rattle.std.specs.Prelude.{◌==◌, find, not, IsSome, option_map}
-use Rattle.std.specs.List.{flat_map}
-use Rattle.std.proofs.lemmas.Bool.{eqb-true}
-use Rattle.std.specs.List.Sorted.{IsPermutation}
-use Rattle.std.proofs.lemmas.List.Sorted.{IsPermutation-append_right, IsPermutation-filter_both}
-use Rattle.std.proofs.lemmas.List.Sorted.{IsPermutation-refl, IsPermutation-trans}
-use Rattle.store_columns.specs.declared.columns.Owned.{Owned}
-use Rattle.store_columns.specs.Flat.{owned_by}
+use Rattle.std.proofs.Common.{◌≡◌, ◌≢◌, ℕ, Bool, List, [], ◌∷◌, ◌++◌, map, filter, refl, sym, ap, subst, ◌∙◌, arith, rules}
+use Rattle.std.proofs.lemmas.List.Sorted.{IsPermutation-append_right, IsPermutation-filter_both, IsPermutation-refl, IsPermutation-trans}
+use Rattle.std.specs.{Prelude.◌==◌, Prelude.find, Prelude.not, Prelude.IsSome, List.flat_map, List.Sorted.IsPermutation}
+use Rattle.store_columns.specs.{declared.columns.Owned.Owned, Flat.owned_by}
 use Rattle.model_laws.specs.{Ordered.Ascends, Distinct.Distinct}
-use Rattle.model_laws.proofs.Basics.{each-map, each_all, eq_turn, find-map}
-use Rattle.model_laws.proofs.Distinctness.{ascends_distinct, distinct-map}
-use Rattle.model_laws.proofs.{Keeps.each-filter, RowLists.ascends_map}
+use Rattle.model_laws.proofs.Basics.{each-map, each_all, find-map}
+use Rattle.model_laws.proofs.{Distinctness.ascends_distinct, Distinctness.distinct-map, Keeps.each-filter, RowLists.ascends_map}
 use Rattle.desk_model.specs.Kept.{EachOf}
-use Rattle.store_book.specs.Nesting.{IsNesting, IsNestOf, child_rows}
-use Rattle.store_book.specs.BookRows.{IsAmong}
+use Rattle.store_book.specs.{Nesting.IsNesting, Nesting.IsNestOf, Nesting.child_rows, BookRows.IsAmong}
 
 -- whether a row is of this owner
 abbrev pub is_of : {T : Type 0} → ℕ → Owned T → Bool
@@ -37,51 +30,19 @@ each_of_owner P n rs h = each-map P (λ r. r.row) (filter (is_of n) rs) (each-fi
 
 -- a number of one of some rows is found among them
 pub found_among : {X : Type 0} (number : X → ℕ) (n : ℕ) (xs : List X) → IsAmong (map number xs) n → IsSome (find (λ x. number x == n) xs)
-found_among {X} number n xs among = by (find (λ x. number x == n) xs) (subst IsSome (find-map (λ m. m == n) number xs) among)
-  where
-    by : (o : Option X) → IsSome (option_map number o) → IsSome o
-    by None h = h
-    by (Some x) h = refl
-
--- a number that is not the first is among the others
-among_rest : (m n : ℕ) (ms : List ℕ) → (m == n) ≡ false → IsAmong (m ∷ ms) n → IsAmong ms n
-among_rest m n ms other among = by (m == n) other among
-  where
-    by : (b : Bool) → b ≡ false → IsSome (cond b (Some m) (find (λ k. k == n) ms)) → IsSome (find (λ k. k == n) ms)
-    by true is h = absurd (cc is)
-    by false is h = h
+found_among {X} number n xs among = search (rules, find-map)
 
 -- ---- the rows of all owners are all rows
 
 -- the rows of an owner, under its number
 owned_again : {T : Type 0} (n : ℕ) (rs : List (Owned T)) → owned_by n (rows_of n rs) ≡ filter (is_of n) rs
 owned_again n [] = refl
-owned_again {T} n (r ∷ rs) = by (r.owner == n) refl (owned_again n rs)
-  where
-    by : (b : Bool) → (r.owner == n) ≡ b → owned_by n (rows_of n rs) ≡ filter (is_of n) rs
-        → owned_by n (map (λ r. r.row) (cond b (r ∷ filter (is_of n) rs) (filter (is_of n) rs))) ≡ cond b (r ∷ filter (is_of n) rs) (filter (is_of n) rs)
-    by true e rest = let same : r.owner ≡ n = eqb-true r.owner n e in λ i. (record { owner = sym same i; row = r.row }) ∷ rest i
-    by false e rest = rest
+owned_again {T} n (r ∷ rs) = grind (arith, (owned_again n rs))
 
 -- those of one owner are not those of another
 of_another : {T : Type 0} (m n : ℕ) → m ≢ n → (rs : List (Owned T)) → rows_of n (filter (λ r. not (is_of m r)) rs) ≡ rows_of n rs
 of_another m n apart [] = refl
-of_another {T} m n apart (r ∷ rs) = by (r.owner == m) refl (r.owner == n) refl (of_another m n apart rs)
-  where
-    still : (d : Bool) → rows_of n (filter (λ r. not (is_of m r)) rs) ≡ rows_of n rs
-        → map (λ r. r.row) (cond d (r ∷ filter (is_of n) (filter (λ r. not (is_of m r)) rs)) (filter (is_of n) (filter (λ r. not (is_of m r)) rs)))
-        ≡ map (λ r. r.row) (cond d (r ∷ filter (is_of n) rs) (filter (is_of n) rs))
-    still true rest = ap (λ l. r.row ∷ l) rest
-    still false rest = rest
-
-    by : (b : Bool) → (r.owner == m) ≡ b → (d : Bool) → (r.owner == n) ≡ d → rows_of n (filter (λ r. not (is_of m r)) rs) ≡ rows_of n rs
-        → rows_of n (cond (not b) (r ∷ filter (λ r. not (is_of m r)) rs) (filter (λ r. not (is_of m r)) rs))
-        ≡ map (λ r. r.row) (cond d (r ∷ filter (is_of n) rs) (filter (is_of n) rs))
-    by true e true f rest = absurd (apart (sym (eqb-true r.owner m e) ∙ eqb-true r.owner n f))
-    by true e false f rest = rest
-    by false e d f rest =
-        ap (λ t. map (λ r. r.row) (cond t (r ∷ filter (is_of n) (filter (λ r. not (is_of m r)) rs)) (filter (is_of n) (filter (λ r. not (is_of m r)) rs)))) f
-        ∙ still d rest
+of_another {T} m n apart (r ∷ rs) = grind (arith, (of_another m n apart rs))
 
 -- the rows of some owners
 abbrev pub all_of : {T : Type 0} → List ℕ → List (Owned T) → List (Owned T)
@@ -96,12 +57,7 @@ others_same m (n ∷ ns) rs apart = λ i. owned_by n (of_another m n apart.0 rs 
 owners_rest : {T : Type 0} (m : ℕ) (ms : List ℕ) (rs : List (Owned T)) → EachOf (λ r. IsAmong (m ∷ ms) r.owner) rs
     → EachOf (λ r. IsAmong ms r.owner) (filter (λ r. not (is_of m r)) rs)
 owners_rest m ms [] h = tt
-owners_rest {T} m ms (r ∷ rs) h = by (r.owner == m) refl (owners_rest m ms rs h.1)
-  where
-    by : (b : Bool) → (r.owner == m) ≡ b → EachOf (λ r. IsAmong ms r.owner) (filter (λ r. not (is_of m r)) rs)
-        → EachOf (λ r. IsAmong ms r.owner) (cond (not b) (r ∷ filter (λ r. not (is_of m r)) rs) (filter (λ r. not (is_of m r)) rs))
-    by true e rest = rest
-    by false e rest = (among_rest m r.owner ms (eq_turn m r.owner ∙ e) h.0, rest)
+owners_rest {T} m ms (r ∷ rs) h = grind (arith, (owners_rest m ms rs h.1))
 
 -- without an owner there are no rows
 no_owners : {T : Type 0} (rs : List (Owned T)) → EachOf (λ r. IsAmong [] r.owner) rs → rs ≡ []
@@ -145,11 +101,8 @@ pub nests_of : {P T : Type 0} (number : P → ℕ) (children : P → List T) (wi
     → EachOf (λ r. IsAmong (map number ps) r.owner) rs → ((n : ℕ) → Ascends child_number 1 (rows_of n rs))
     → IsNestOf number children with_children child_number ps rs (map (with_rows number with_children rs) ps)
 nests_of number children with_children child_number laws ps rs up bare owners rising = record {
-  parents_are = subst (IsPermutation ps) (sym (parents_of number children with_children laws rs ps bare)) (IsPermutation-refl ps);
-  rows_are = subst (IsPermutation rs) (sym (children_of number children with_children laws rs ps))
-      (rows_of_all (map number ps) rs (distinct-map (λ n. n) number ps (ascends_distinct number 1 ps up)) owners);
-  ascends = ascends_map number number (with_rows number with_children rs) (λ p. laws.number_kept p (rows_of (number p) rs)) 1 ps up;
-  children_ascend = each-map (λ p. Ascends child_number 1 (children p)) (with_rows number with_children rs) ps
-      (each_all (λ p. Ascends child_number 1 (children (with_rows number with_children rs p))) ps
-      (λ p. subst (Ascends child_number 1) (sym (laws.children_are p (rows_of (number p) rs))) (rising (number p))));
+  parents_are = grind (arith, parents_of);
+  rows_are = search (rules, children_of, rows_of_all, distinct-map, ascends_distinct);
+  ascends = grind (arith, ascends_map);
+  children_ascend = grind (arith, each-map, each_all);
 }

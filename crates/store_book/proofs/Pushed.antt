@@ -1,11 +1,10 @@
 -- Faults pushed row by row.
-use Rattle.std.proofs.Common.{◌≡◌, List, [], ◌∷◌, ◌++◌, sym, ap, ◌∙◌, append_assoc}
-use Rattle.std.specs.List.{flat_map}
+use Rattle.std.proofs.Common.{◌≡◌, List, [], ◌∷◌, ◌++◌, ap, ◌∙◌, append_assoc, rules}
 use Rattle.std.proofs.lemmas.List.Concat.{flat_map-append}
-use Rattle.desk_model.specs.{Entry.History, History.clock, Legal.Legal}
+use Rattle.std.specs.List.{flat_map}
 use Rattle.desk_model.specs.Tables.{Tables, picture}
-use Rattle.desk_model.specs.declared.rows.{AuthorizationRow.AuthorizationRow, StatusFault.StatusFault}
 use Rattle.desk_model.specs.Derived.{account_faults, authorization_faults, challenge_faults, order_faults, sorted_challenges, status_faults}
+use Rattle.desk_model.specs.{Entry.History, History.clock, Legal.Legal, declared.rows.AuthorizationRow.AuthorizationRow, declared.rows.StatusFault.StatusFault}
 use Rattle.model_laws.proofs.Faults.{no_faults}
 use Rattle.store_book.specs.FaultNumbers.{challenges_of}
 
@@ -18,11 +17,7 @@ pushed-step faults_of x rest before now whole e h = ap (λ l. l ++ flat_map faul
 pub pushed_all-step : (a : AuthorizationRow) (rest : List AuthorizationRow) (before now whole : List StatusFault) →
     now ≡ before ++ flat_map challenge_faults a.challenges → before ++ flat_map challenge_faults (challenges_of (a ∷ rest)) ≡ whole →
     now ++ flat_map challenge_faults (challenges_of rest) ≡ whole
-pushed_all-step a rest before now whole e h =
-    ap (λ l. l ++ flat_map challenge_faults (challenges_of rest)) e
-    ∙ append_assoc before (flat_map challenge_faults a.challenges) (flat_map challenge_faults (challenges_of rest))
-    ∙ ap (λ l. before ++ l) (sym (flat_map-append challenge_faults a.challenges (challenges_of rest)))
-    ∙ h
+pushed_all-step a rest before now whole e h = search (rules, append_assoc, flat_map-append)
 
 -- the picture of a legal history has no fault
 pub picture-no_faults : (B : Tables) (F : History) → Legal F → B ≡ picture F → status_faults B ≡ []
@@ -33,14 +28,4 @@ pub all_faults : (T : Tables) (before accounts orders authorizations now : List 
     orders ≡ accounts ++ flat_map (order_faults T.meta.counters.clock T.authorizations) T.orders →
     authorizations ≡ orders ++ flat_map (authorization_faults T.meta.counters.clock) T.authorizations →
     now ≡ authorizations ++ flat_map challenge_faults (sorted_challenges (challenges_of T.authorizations)) → now ≡ before ++ status_faults T
-all_faults T before accounts orders authorizations now of_accounts of_orders of_authorizations of_challenges =
-    of_challenges
-    ∙ four before (flat_map account_faults T.accounts) (flat_map (order_faults T.meta.counters.clock T.authorizations) T.orders)
-    (flat_map (authorization_faults T.meta.counters.clock) T.authorizations) (flat_map challenge_faults (sorted_challenges (challenges_of T.authorizations)))
-    accounts orders authorizations of_accounts of_orders of_authorizations
-  where
-    four : (xs ys os zs cs one two three : List StatusFault) → one ≡ xs ++ ys → two ≡ one ++ os → three ≡ two ++ zs →
-        three ++ cs ≡ xs ++ (ys ++ (os ++ (zs ++ cs)))
-    four xs ys os zs cs one two three first second third =
-        ap (λ l. l ++ cs) (third ∙ ap (λ l. l ++ zs) (second ∙ ap (λ l. l ++ os) first))
-        ∙ append_assoc ((xs ++ ys) ++ os) zs cs ∙ append_assoc (xs ++ ys) os (zs ++ cs) ∙ append_assoc xs ys (os ++ (zs ++ cs))
+all_faults T before accounts orders authorizations now of_accounts of_orders of_authorizations of_challenges = search (rules, append_assoc)

@@ -1,20 +1,14 @@
 -- Loops over a slice: what is left of it, by one more row, and nothing at the end.
-use Rattle.std.proofs.Common.{◌≡◌, ◌≤◌, ◌<◌, ◌+◌, ℕ, List, [], ◌∷◌, ◌++◌, length, take, drop, get_or, refl, sym, ap, ◌∙◌, append_assoc, append-nil}
-use Rattle.std.specs.Prelude.{Option, Some, None}
+use Rattle.std.proofs.Common.{◌≡◌, ◌≤◌, ◌<◌, ◌+◌, ℕ, List, [], ◌∷◌, ◌++◌, length, take, drop, get_or, sym, ap, ◌∙◌, append_assoc, append-nil, arith, rules}
 use Rattle.std.proofs.lemmas.List.{at_drop_all, at_drop_more, take-append-drop}
-use Rattle.desk_model.specs.Derived.{and_status, authorization_numbered, numbers_of, stored_statuses}
-use Rattle.desk_model.specs.declared.{rows.AuthorizationRow.AuthorizationRow, rows.Listed.Listed, status.AuthzStatus.AuthzStatus}
+use Rattle.desk_model.specs.{Derived.numbers_of, Derived.stored_statuses, declared.rows.AuthorizationRow.AuthorizationRow, declared.rows.Listed.Listed}
 
 -- what one row gives, and what is left
 pub slice-step : {X Y : Type 0} (all_of : List X → List Y) (one_of : X → List Y) →
     ((x : X) (rest : List X) → one_of x ++ all_of rest ≡ all_of (x ∷ rest)) →
     (xs : List X) (index : ℕ) (d : X) (before now whole : List Y) → index < length xs → now ≡ before ++ one_of (get_or xs index d) →
     before ++ all_of (drop index xs) ≡ whole → now ++ all_of (drop (index + 1) xs) ≡ whole
-slice-step all_of one_of by_row xs index d before now whole more pushed kept =
-    ap (λ l. l ++ all_of (drop (index + 1) xs)) pushed
-    ∙ append_assoc before (one_of (get_or xs index d)) (all_of (drop (index + 1) xs))
-    ∙ ap (λ l. before ++ l) (by_row (get_or xs index d) (drop (index + 1) xs) ∙ sym (at_drop_more all_of xs index d more))
-    ∙ kept
+slice-step all_of one_of by_row xs index d before now whole more pushed kept = grind (arith, append_assoc, (at_drop_more all_of xs index d more))
 
 -- and behind the last row
 pub slice-end : {X Y : Type 0} (all_of : List X → List Y) → all_of [] ≡ [] → (xs : List X) (index : ℕ) (done whole : List Y) →
@@ -32,14 +26,9 @@ none-left xs index all = at_drop_all (λ l. l) xs index all
 -- a row of a slice stands between those before it and those behind it
 pub row-among : {X : Type 0} (xs : List X) (index : ℕ) (d row : X) → index < length xs → row ≡ get_or xs index d
     → take index xs ++ row ∷ drop (index + 1) xs ≡ xs
-row-among xs index d row more is =
-    ap (λ x. take index xs ++ x ∷ drop (index + 1) xs) is ∙ ap (λ l. take index xs ++ l) (sym (one-more xs index d more)) ∙ take-append-drop index xs
+row-among xs index d row more is = search (rules, one-more, take-append-drop)
 
 -- the stored status of what is listed first, and those of the rest
 pub statuses-by_row : (rows : List AuthorizationRow) (l : Listed) (rest : List Listed) →
     stored_statuses rows (l.authorization ∷ []) ++ stored_statuses rows (numbers_of rest) ≡ stored_statuses rows (numbers_of (l ∷ rest))
-statuses-by_row rows l rest = by (authorization_numbered l.authorization rows) (stored_statuses rows (numbers_of rest))
-  where
-    by : (found : Option AuthorizationRow) (rest : List AuthzStatus) → and_status found [] ++ rest ≡ and_status found rest
-    by None rest = refl
-    by (Some row) rest = refl
+statuses-by_row rows l rest = search rules

@@ -1,13 +1,11 @@
 -- A list in order is the only order of its elements that rises strictly.
-use Rattle.std.proofs.Common.{◌≡◌, ◌⊎◌, ◌+◌, true, false, List, [], ◌∷◌, length, get_or, refl, sym, ap, ◌∙◌, arith, Ordering, inl, inr, zero-le, is_lt, is_eq}
-use Rattle.std.specs.Cmp.{IsTotalOrder}
-use Rattle.std.specs.List.{AllByRecursion, IsDistinct}
-use Rattle.std.specs.List.Sorted.{IsSorted, IsStrictlySortedBy, IsPermutation}
-use Rattle.std.specs.Ordering.{eq_by_cmp, ordering_reverse}
+use Rattle.std.proofs.Common.{◌≡◌, ◌⊎◌, ◌+◌, false, List, [], ◌∷◌, length, get_or, refl, sym, ap, ◌∙◌, arith, Ordering, inl, inr, zero-le, is_lt, rules}
 use Rattle.std.proofs.lemmas.List.Elements.{All-from_recursion, recursion_from_All}
 use Rattle.std.proofs.lemmas.List.Sorted.{All-permutation, IsPermutation-sym, length_permutation}
-use Rattle.std.proofs.lemmas.Map.Keys.{IsDistinct-from_sorted, IsDistinct-IsPermutation, apart_from_distinct}
-use Rattle.std.proofs.lemmas.Map.Keys.{sorted_from_all_adjacent, sorted_head, sorted_tail}
+use Rattle.std.proofs.lemmas.Map.Keys.{IsDistinct-from_sorted, IsDistinct-IsPermutation, apart_from_distinct, sorted_from_all_adjacent, sorted_head}
+use Rattle.std.proofs.lemmas.Map.Keys.{sorted_tail}
+use Rattle.std.specs.List.Sorted.{IsSorted, IsStrictlySortedBy, IsPermutation}
+use Rattle.std.specs.{Cmp.IsTotalOrder, List.AllByRecursion, List.IsDistinct, Ordering.eq_by_cmp, Ordering.ordering_reverse}
 
 -- no element is below itself
 irreflexive : {X : Type 0} (c : X → X → Ordering) → IsTotalOrder c → (x : X) → c x x ≡ Ordering.Less → ⊥
@@ -15,21 +13,11 @@ irreflexive c o x h = let back : c x x ≡ ordering_reverse (c x x) = o.antisymm
 
 -- of two elements that are not equal the one that is not above is below
 less_from : {X : Type 0} (c : X → X → Ordering) → IsTotalOrder c → (x y : X) → is_lt (c y x) ≡ false → eq_by_cmp c x y ≡ false → c x y ≡ Ordering.Less
-less_from c o x y up apart = by (c x y) refl
-  where
-    by : (r : Ordering) → c x y ≡ r → c x y ≡ Ordering.Less
-    by Ordering.Less e = e
-    by Ordering.Equal e = let clash : true ≡ false = sym (ap is_eq e) ∙ apart in cc
-    by Ordering.Greater e = let clash : true ≡ false = sym (ap is_lt (o.antisymm y x ∙ ap ordering_reverse e)) ∙ up in cc
+less_from c o x y up apart = search rules
 
 -- equality by an order is the same from both sides
 pub equal_flips : {X : Type 0} (c : X → X → Ordering) → IsTotalOrder c → (x y : X) → eq_by_cmp c x y ≡ eq_by_cmp c y x
-equal_flips c o x y = ap is_eq (o.antisymm x y) ∙ turned (c y x)
-  where
-    turned : (r : Ordering) → is_eq (ordering_reverse r) ≡ is_eq r
-    turned Ordering.Less = refl
-    turned Ordering.Equal = refl
-    turned Ordering.Greater = refl
+equal_flips c o x y = search rules
 
 -- what is sorted and has no equal elements rises strictly
 pub strictly-from_distinct : {X : Type 0} (c : X → X → Ordering) → IsTotalOrder c → (xs : List X) → IsSorted c xs → IsDistinct (eq_by_cmp c) xs →
@@ -44,9 +32,7 @@ strictly-from_distinct c o (x ∷ xs) up apart =
 -- a sorted order of what can rise strictly does so
 pub strictly-from_other : {X : Type 0} (c : X → X → Ordering) → IsTotalOrder c → (xs ys : List X) → IsSorted c xs → IsStrictlySortedBy c ys →
     IsPermutation xs ys → IsStrictlySortedBy c xs
-strictly-from_other c o xs ys up rises permuted =
-    strictly-from_distinct c o xs up
-    (IsDistinct-IsPermutation (eq_by_cmp c) (equal_flips c o) ys xs (IsPermutation-sym xs ys permuted) (IsDistinct-from_sorted c ys rises))
+strictly-from_other c o xs ys up rises permuted = search (rules, strictly-from_distinct, IsDistinct-IsPermutation, equal_flips, IsPermutation-sym, IsDistinct-from_sorted)
 
 -- each of these elements is this one or above
 first_or_above : {X : Type 0} (c : X → X → Ordering) (x : X) (xs : List X) → AllByRecursion (λ y. c x y ≡ Ordering.Less) xs →
@@ -85,9 +71,7 @@ same_from_elements {X} c o (x ∷ xs) (y ∷ ys) up down to from =
     second = (from (λ z. (z ≡ y) ⊎ (c y z ≡ Ordering.Less)) (inl refl, first_or_above c y ys (sorted_head c y ys down))).0
 
     heads : (y ≡ x) ⊎ (c x y ≡ Ordering.Less) → (x ≡ y) ⊎ (c y x ≡ Ordering.Less) → x ≡ y
-    heads (inl e) h = sym e
-    heads (inr lt) (inl e) = e
-    heads (inr lt) (inr gt) = absurd (irreflexive c o x (o.trans x y x lt gt))
+    heads g k = grind arith
 
     to_tail : (P : X → Type 0) → AllByRecursion P xs → AllByRecursion P ys
     to_tail P h = not_first c o P y ys (sorted_head c y ys down) ((to (λ z. (z ≡ y) ⊎ P z) (inl (heads first second), or_passes P y xs h)).1)
@@ -98,18 +82,12 @@ same_from_elements {X} c o (x ∷ xs) (y ∷ ys) up down to from =
 -- a sorted list is the one order of its elements that rises strictly
 pub same_sorted : {X : Type 0} (c : X → X → Ordering) → IsTotalOrder c → (xs ys : List X) → IsSorted c xs → IsStrictlySortedBy c ys
     → IsPermutation xs ys → xs ≡ ys
-same_sorted c o xs ys up rises permuted =
-    same_from_elements c o xs ys (strictly-from_other c o xs ys up rises permuted) rises
-    (λ P h. recursion_from_All P ys (All-permutation P xs ys permuted (All-from_recursion P xs h)))
-    (λ P h. recursion_from_All P xs (All-permutation P ys xs (IsPermutation-sym xs ys permuted) (All-from_recursion P ys h)))
+same_sorted c o xs ys up rises permuted = search (rules, same_from_elements, strictly-from_other, recursion_from_All, All-permutation, All-from_recursion, IsPermutation-sym)
 
 -- what rises strictly is the one order of its elements that does
 pub same_strictly : {X : Type 0} (c : X → X → Ordering) → IsTotalOrder c → (xs ys : List X) → IsStrictlySortedBy c xs
     → IsStrictlySortedBy c ys → IsPermutation xs ys → xs ≡ ys
-same_strictly c o xs ys up down permuted =
-    same_from_elements c o xs ys up down
-    (λ P h. recursion_from_All P ys (All-permutation P xs ys permuted (All-from_recursion P xs h)))
-    (λ P h. recursion_from_All P xs (All-permutation P ys xs (IsPermutation-sym xs ys permuted) (All-from_recursion P ys h)))
+same_strictly c o xs ys up down permuted = search (rules, same_from_elements, recursion_from_All, All-permutation, All-from_recursion, IsPermutation-sym)
 
 -- a list with one element is the one order of it
 pub same_single : {X : Type 0} (xs : List X) (y : X) → IsPermutation xs (y ∷ []) → xs ≡ y ∷ []

@@ -1,19 +1,16 @@
 -- One book at most has given rows.
-use Rattle.std.proofs.Common.{◌≡◌, ℕ, ◌++◌, List, [], ◌∷◌, map, refl, sym, ap, ◌∙◌, subst}
-use Rattle.std.specs.List.Sorted.{IsPermutation}
+use Rattle.std.proofs.Common.{◌≡◌, ℕ, ◌++◌, List, [], ◌∷◌, map, refl, sym, ap, ◌∙◌, rules}
 use Rattle.std.proofs.lemmas.List.Sorted.{IsPermutation-refl, IsPermutation-sym, IsPermutation-trans}
+use Rattle.std.specs.List.Sorted.{IsPermutation}
 use Rattle.desk_model.specs.Tables.{Tables}
 use Rattle.desk_model.specs.declared.rows.{AuthorizationRow.AuthorizationRow, ChallengeRow.ChallengeRow, Listed.Listed, OrderRow.OrderRow}
 use Rattle.store_columns.proofs.RowsApart.{rows-apart}
-use Rattle.store_columns.specs.Columns.{rows_columns}
-use Rattle.store_columns.specs.Limits.{AreStored}
-use Rattle.store_columns.specs.declared.{columns.StoredRows.StoredRows, columns.Owned.Owned, columns.FlatRows.FlatRows}
-use Rattle.store_columns.specs.Flat.{bare_row, challenge_rows, key_rows, owned_by}
+use Rattle.store_columns.specs.{Columns.rows_columns, Limits.AreStored, declared.columns.StoredRows.StoredRows, declared.columns.Owned.Owned}
+use Rattle.store_columns.specs.{declared.columns.FlatRows.FlatRows, Flat.bare_row, Flat.challenge_rows, Flat.key_rows, Flat.owned_by}
 use Rattle.model_laws.proofs.Distinctness.{distinct-map, map-distinct}
 use Rattle.model_laws.specs.Distinct.{Distinct}
-use Rattle.store_book.specs.FaultNumbers.{challenges_of}
+use Rattle.store_book.specs.{FaultNumbers.challenges_of, IsBook.IsBook, IsBook.IsBookOf}
 use Rattle.store_book.proofs.{Joins.same_rows, Nests.same_nest, OrderedRows.same_ascending, SortedLists.same_single}
-use Rattle.store_book.specs.IsBook.{IsBook, IsBookOf}
 
 -- the numbers of challenges, with or without their owner
 owned_numbers : (n : ℕ) (cs : List ChallengeRow) (rest : List (Owned ChallengeRow)) (more : List ChallengeRow)
@@ -29,10 +26,7 @@ all_numbers (a ∷ rows) = owned_numbers a.number a.challenges (challenge_rows r
 
 -- a book has no number of a challenge twice
 rows_distinct : (T : Tables) → IsBook T → Distinct (λ (c : Owned ChallengeRow). c.row.number) (challenge_rows T.authorizations)
-rows_distinct T book =
-    map-distinct (λ (c : Owned ChallengeRow). c.row.number) (challenge_rows T.authorizations)
-    (subst (Distinct (λ n. n)) (sym (all_numbers T.authorizations))
-    (distinct-map (λ n. n) (λ (c : ChallengeRow). c.number) (challenges_of T.authorizations) book.sound.distinct.challenges))
+rows_distinct T book = search (rules, map-distinct, all_numbers, distinct-map)
 
 -- two orders of the same elements
 moved_both : {X : Type 0} (ys xs zs : List X) → IsPermutation ys xs → IsPermutation ys zs → IsPermutation xs zs

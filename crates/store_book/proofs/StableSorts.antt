@@ -1,8 +1,7 @@
 -- What a stable sort by a number makes is the one list that rises and keeps the order of equals.
-use Rattle.std.proofs.Common.{◌≡◌, ℕ, zero, suc, ◌<◌, ◌≤◌, Bool, true, false, List, [], ◌∷◌, length, get_or, filter, nat_cmp}
-use Rattle.std.proofs.Common.{is_lt, refl, sym, ap, ◌∙◌, arith, inl, inr, suc-le-suc, zero-le}
-use Rattle.std.proofs.lemmas.Bool.{cond-true, cond-false, cases_Bool}
-use Rattle.std.proofs.lemmas.Bool.Decides.{nat_tests}
+use Rattle.std.proofs.Common.{◌≡◌, ℕ, zero, suc, ◌<◌, ◌≤◌, Bool, true, false, List, [], ◌∷◌, length, get_or, filter, nat_cmp, is_lt, refl, sym, ap, ◌∙◌, arith}
+use Rattle.std.proofs.Common.{inl, inr, suc-le-suc, zero-le}
+use Rattle.std.proofs.{lemmas.Bool.cond-true, lemmas.Bool.cond-false, lemmas.Bool.cases_Bool, lemmas.Bool.Decides.nat_tests}
 use Rattle.std.specs.List.Sorted.{ties, IsNonDecreasingBy}
 
 -- whether two numbers tie
@@ -69,10 +68,8 @@ at_least-found key n x (y ∷ ys) w ws h e =
 pub same_from_ties : {X : Type 0} (key : X → ℕ) (ys zs : List X) → Rises key ys → Rises key zs →
     ((x : X) → filter (λ z. are_even (key x) (key z)) ys ≡ filter (λ z. are_even (key x) (key z)) zs) → ys ≡ zs
 same_from_ties key [] [] left right same = refl
-same_from_ties key [] (z ∷ zs) left right same =
-    let clash = same z ∙ filter-kept (λ x. are_even (key z) (key x)) z zs (same-even (key z) (key z) refl) in cc
-same_from_ties key (y ∷ ys) [] left right same =
-    let clash = sym (same y) ∙ filter-kept (λ x. are_even (key y) (key x)) y ys (same-even (key y) (key y) refl) in cc
+same_from_ties key [] (z ∷ zs) left right same = grind arith
+same_from_ties key (y ∷ ys) [] left right same = grind arith
 same_from_ties {X} key (y ∷ ys) (z ∷ zs) left right same =
     let at_y = filter-kept (λ x. are_even (key y) (key x)) y ys (same-even (key y) (key y) refl) in
     let at_z = filter-kept (λ x. are_even (key z) (key x)) z zs (same-even (key z) (key z) refl) in

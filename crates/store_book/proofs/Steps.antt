@@ -1,17 +1,13 @@
 -- One row more.
-use Rattle.std.proofs.Common.{◌≡◌, ◌<◌, ◌≤◌, ◌+◌, inl, inr, ℕ, Bool, List, [], ◌∷◌, ◌++◌, map, Option, None, Some, Result, Ok, Err, arith, refl, sym, ap, subst}
-use Rattle.std.proofs.Common.{◌∙◌}
-use Rattle.std.specs.Prelude.{IfOk, option_to_list}
-use Rattle.std.specs.List.{cons_option}
+use Rattle.std.proofs.Common.{◌≡◌, ◌<◌, ◌≤◌, ◌+◌, ℕ, Bool, List, [], ◌∷◌, ◌++◌, map, Result, Ok, Err, arith, refl, sym, ap, subst, ◌∙◌, rules}
 use Rattle.std.proofs.lemmas.List.Elements.{filter_map-append}
+use Rattle.std.specs.Prelude.{IfOk, option_to_list}
 use Rattle.store_columns.specs.declared.columns.{AnswerKey.AnswerKey, BareChallenge.BareChallenge, Owned.Owned}
-use Rattle.desk_model.specs.Kept.{EachOf}
-use Rattle.desk_model.specs.declared.rows.Listed.{Listed}
-use Rattle.store_book.specs.BookRows.{IsAmong, PlacesRise, Rise, answered_number, answered_numbers}
+use Rattle.desk_model.specs.{Kept.EachOf, declared.rows.Listed.Listed}
+use Rattle.store_book.specs.{BookRows.IsAmong, BookRows.PlacesRise, BookRows.Rise, BookRows.answered_number, BookRows.answered_numbers, Passing.AreOwned}
+use Rattle.store_book.specs.{Passing.Counts, Passing.IsPlacedNext, Passing.IsPlacedUpTo, Passing.IsUpTo, Passing.PlacedFrom, declared.counter.Counter.Counter}
 use Rattle.model_laws.specs.Ordered.{Ascends, Below, IsTable}
 use Rattle.model_laws.proofs.Basics.{each, each-append}
-use Rattle.store_book.specs.Passing.{AreOwned, Counts, IsPlacedNext, IsPlacedUpTo, IsUpTo, PlacedFrom}
-use Rattle.store_book.specs.declared.counter.Counter.{Counter}
 
 -- what ascends goes on with a number above all
 ascends_more : {X : Type 0} (number : X → ℕ) (n top : ℕ) (rows : List X) (row : X) → Ascends number n rows → Below number (top + 1) rows
@@ -38,35 +34,16 @@ above_before number n (x ∷ rows) row rest up =
 -- a row of a table behind those so far counts on
 pub counts_on : {X : Type 0} (number : X → ℕ) (first now : Counter) (rows : List X) (row : X) (rest : List X) → IsUpTo number first now rows
     → IsTable number first.last (rows ++ row ∷ rest) → (now.top < number row) × (number row ≤ now.last)
-counts_on number first now rows row rest up table =
-    let behind = above_before number 1 rows row rest table.0 in
-    let from = behind.0 in
-    let given = each_at (λ x. number x < first.last + 1) rows row rest table.1 in
-    let last = up.last in
-    (up.reached (number row) (omega (arith, from)) behind.1, omega (arith, given, last))
+counts_on number first now rows row rest up table = search (rules, above_before, each_at)
 
 -- the numbers of the rows so far and of the next
 pub up_to_more : {X : Type 0} (number : X → ℕ) (first old new : Counter) (rows : List X) (row : X) → Counts old (number row) new
     → IsUpTo number first old rows → IsUpTo number first new (rows ++ row ∷ [])
-up_to_more number first old new rows row counts up =
-    let above = counts.above in
-    let top = counts.top in
-    record {
-      last = counts.last ∙ up.last;
-      top = omega (arith, counts.given, counts.top, counts.last);
-      ascends = ascends_more number 1 old.top rows row up.ascends up.below (omega arith) above;
-      below = each-append (λ x. number x < new.top + 1) rows (row ∷ [])
-          (each (λ x. number x < old.top + 1) (λ x. number x < new.top + 1) rows (λ x low. omega (arith, low, above, top)) up.below)
-          (omega (arith, top), tt);
-      reached = λ n some low. let next = each_at (λ x. number x < n) rows row [] low in omega (arith, top, next);
-    }
+up_to_more number first old new rows row counts up = search (rules, ascends_more, each-append, each, each_at)
 
 -- rows behind the last one are a table
 pub whole_table : {X : Type 0} (number : X → ℕ) (first now : Counter) (rows : List X) → IsUpTo number first now rows → IsTable number first.last rows
-whole_table number first now rows up =
-    let top = up.top in
-    let last = up.last in
-    (up.ascends, each (λ x. number x < now.top + 1) (λ x. number x < first.last + 1) rows (λ x low. omega (arith, low, top, last)) up.below)
+whole_table number first now rows up = search (rules, each)
 
 -- what is kept of each row
 pub kept_more : {X Y : Type 0} (keep : X → Y) (rows : List X) (row : X) (before after : List Y) → after ≡ before ++ keep row ∷ [] → before ≡ map keep rows
@@ -99,13 +76,7 @@ owned_more number owner row old new owners still before after (Err e) counts pus
 -- the numbers of answered challenges, and that of one more
 pub answered_more : (rows : List (Owned BareChallenge)) (row : Owned BareChallenge) (before after : List ℕ)
     → after ≡ before ++ option_to_list (answered_number row) → before ≡ answered_numbers rows → after ≡ answered_numbers (rows ++ row ∷ [])
-answered_more rows row before after pushed are =
-    pushed ∙ ap (λ l. l ++ option_to_list (answered_number row)) are ∙ ap (λ l. answered_numbers rows ++ l) (as_list (answered_number row))
-    ∙ sym (filter_map-append answered_number rows (row ∷ []))
-  where
-    as_list : (o : Option ℕ) → option_to_list o ≡ cons_option o []
-    as_list None = refl
-    as_list (Some n) = refl
+answered_more rows row before after pushed are = search (rules, filter_map-append)
 
 -- places that rise, and one behind them
 pub places_more : (rows : List (Owned Listed)) (row : Owned Listed) (order place : ℕ) → IsPlacedNext order place row.owner row.row.place
@@ -117,23 +88,12 @@ places_more (r ∷ rows) row order place next up rise = (
 )
   where
     above : IsPlacedNext order place row.owner row.row.place → IsPlacedUpTo order place r → row.owner ≡ r.owner → r.row.place < row.row.place
-    above (inl later) (inl earlier) same = absurd (omega (arith, later, earlier, same))
-    above (inl later) (inr here) same = absurd (let is = here.0 in omega (arith, later, is, same))
-    above (inr next) (inl earlier) same = absurd (let is = next.0 in omega (arith, is, earlier, same))
-    above (inr next) (inr here) same = let low = here.1 in let high = next.1 in omega (arith, low, high)
+    above h k l = grind arith
 
 -- all are up to it
 pub placed_more : (rows : List (Owned Listed)) (row : Owned Listed) (order place : ℕ) → IsPlacedNext order place row.owner row.row.place
     → EachOf (IsPlacedUpTo order place) rows → EachOf (IsPlacedUpTo row.owner row.row.place) (rows ++ row ∷ [])
-placed_more rows row order place next up =
-    each_more (IsPlacedUpTo row.owner row.row.place) rows row
-    (each (IsPlacedUpTo order place) (IsPlacedUpTo row.owner row.row.place) rows (λ r low. further r next low) up) (inr (refl, omega arith))
-  where
-    further : (r : Owned Listed) → IsPlacedNext order place row.owner row.row.place → IsPlacedUpTo order place r → IsPlacedUpTo row.owner row.row.place r
-    further r (inl later) (inl earlier) = inl (omega (arith, later, earlier))
-    further r (inl later) (inr here) = inl (let is = here.0 in omega (arith, later, is))
-    further r (inr next) (inl earlier) = inl (let is = next.0 in omega (arith, is, earlier))
-    further r (inr next) (inr here) = inr (here.0 ∙ sym next.0, let low = here.1 in let high = next.1 in omega (arith, low, high))
+placed_more rows row order place next up = search (rules, each_more, each)
 
 -- what is placed behind those so far and one more is placed behind that
 pub placed_behind : (order place : ℕ) (rows : List (Owned Listed)) (row next : Owned Listed) (rest : List (Owned Listed))
@@ -147,12 +107,7 @@ pub owned_fine : {X E : Type 0} (number owner : X → ℕ) (row : X) (old : Coun
     → IfOk taken (λ passes. (first : Counter) (first_owners : List ℕ) (rows rest : List X) → AreOwned number owner first old owners first_owners numbers rows
     → Rise first_owners → IsTable number first.last (rows ++ row ∷ rest) → EachOf (λ x. IsAmong first_owners (owner x)) (rows ++ row ∷ rest)
     → passes ≡ Bool.true)
-owned_fine number owner row old owners numbers (Ok passes) fine =
-    λ first first_owners rows rest so_far rise table found.
-    let on = counts_on number first old rows row rest so_far.0 table in
-    fine on.0 on.1 (subst Rise (sym so_far.2) rise) (subst (λ l. IsAmong l (owner row)) (sym so_far.2)
-    (each_at (λ x. IsAmong first_owners (owner x)) rows row rest found))
-owned_fine number owner row old owners numbers (Err e) fine = tt
+owned_fine number owner row old owners numbers taken h = search (rules, counts_on, each_at)
 
 -- the key behind those so far is the next one
 pub next_key : (rows : List AnswerKey) (row : AnswerKey) (rest : List AnswerKey) (left all : List ℕ) → map (λ k. k.challenge) rows ++ left ≡ all

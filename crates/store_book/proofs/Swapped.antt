@@ -1,22 +1,16 @@
 -- What is made of each element moves with it.
-use Rattle.std.proofs.Common.{◌≡◌, ℕ, ◌+◌, ◌-◌, ◌<◌, take, drop, true, false, Bool, Option, Some, None, append_assoc, length-append}
-use Rattle.std.proofs.Common.{List, [], ◌∷◌, ◌++◌, refl, sym, ap, ◌∙◌, map, length, get_or, set, slice_index_or, arith, IsPermutation}
-use Rattle.std.proofs.lemmas.List.Sorted.{IsPermutation-trans, IsPermutation-keeps, IsPermutation-refl, IsPermutation-swap}
-use Rattle.std.proofs.lemmas.List.Sorted.{IsPermutation-append_left, IsPermutation-append_right, IsPermutation-append_comm}
-use Rattle.std.proofs.{Math.ListN.get_or-map, lemmas.List.Edits.swap_is, lemmas.List.Concat.flat_map-append}
+use Rattle.std.proofs.Common.{◌≡◌, ℕ, ◌+◌, ◌-◌, ◌<◌, take, drop, true, false, Bool, Option, append_assoc, length-append, List, [], ◌∷◌, ◌++◌, refl, sym, ap}
+use Rattle.std.proofs.Common.{◌∙◌, map, length, set, slice_index_or, arith, IsPermutation, rules}
+use Rattle.std.proofs.lemmas.List.Sorted.{IsPermutation-trans, IsPermutation-keeps, IsPermutation-refl, IsPermutation-swap, IsPermutation-append_left}
+use Rattle.std.proofs.lemmas.List.Sorted.{IsPermutation-append_right, IsPermutation-append_comm}
 use Rattle.std.proofs.lemmas.List.{get_or-drop, map-set, length-map, set-get_or, take-append-drop, drop_more, length-take-le, length-drop, set_at, set_comm}
+use Rattle.std.proofs.{Math.ListN.get_or-map, lemmas.List.Edits.swap_is, lemmas.List.Concat.flat_map-append, lemmas.Bool.ltb-true, lemmas.Bool.ltb-false}
 use Rattle.std.specs.List.{cons_option, filter_map, flat_map, swap}
-use Rattle.std.proofs.lemmas.Bool.{ltb-true, ltb-false}
 use lib.Dec.{ltb}
 
 -- two elements change places as what is made of them does
 map-swap : {X Y : Type 0} (f : X → Y) (xs : List X) (i j : ℕ) → map f (swap xs i j) ≡ swap (map f xs) i j
-map-swap f [] i j = refl
-map-swap f (d ∷ ys) i j =
-    let xs = d ∷ ys in
-    map-set f (set xs i (get_or xs j d)) j (get_or xs i d)
-    ∙ ap (λ l. set l j (f (get_or xs i d))) (map-set f xs i (get_or xs j d))
-    ∙ (λ t. set (set (map f xs) i (sym (get_or-map f xs j d) t)) j (sym (get_or-map f xs i d) t))
+map-swap f xs i j = search (rules, map-set, get_or-map)
 
 -- three parts with the first and the last in each other's place
 three-parts : {B : Type 0} (p q r t : List B) → IsPermutation (p ++ (q ++ (r ++ t))) (r ++ (q ++ (p ++ t)))
@@ -88,11 +82,7 @@ flat-permutation {X} f zs ws p =
 -- what is made of some
 picked_flat : {X Y : Type 0} (h : X → Option Y) (xs : List X) → flat_map (λ x. cons_option (h x) []) xs ≡ filter_map h xs
 picked_flat h [] = refl
-picked_flat h (x ∷ xs) = by (h x) (picked_flat h xs)
-  where
-    by : {Y : Type 0} {rest whole : List Y} (o : Option Y) → rest ≡ whole → cons_option o [] ++ rest ≡ cons_option o whole
-    by None same = same
-    by (Some y) same = ap (λ l. y ∷ l) same
+picked_flat h (x ∷ xs) = grind (arith, (picked_flat h xs))
 
 -- moves with it
 pub picked-permutation : {X Y : Type 0} (h : X → Option Y) (xs ys : List X) → IsPermutation xs ys → IsPermutation (filter_map h xs) (filter_map h ys)

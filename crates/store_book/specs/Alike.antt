@@ -1,11 +1,9 @@
 -- A row in the place of one of the same number and the same owner.
 use Rattle.std.specs.Prelude.{◌≡◌, ◌+◌, ◌<◌, ◌≤◌, ℕ, List, [], ◌∷◌, ◌++◌, map}
-use Rattle.std.proofs.Common.{refl, sym, ap, subst, ◌∙◌}
+use Rattle.std.proofs.Common.{sym, ap, subst, ◌∙◌}
 use Rattle.desk_model.specs.Kept.{EachOf}
 use Rattle.model_laws.specs.Ordered.{Ascends, Below, IsTable}
-use Rattle.store_book.specs.BookRows.{IsAmong}
-use Rattle.store_book.specs.Passing.{AreOwned, IsUpTo}
-use Rattle.store_book.specs.declared.counter.Counter.{Counter}
+use Rattle.store_book.specs.{BookRows.IsAmong, Passing.AreOwned, declared.counter.Counter.Counter}
 
 module _ {X : Type 0} (row other : X) where
   -- what holds of each

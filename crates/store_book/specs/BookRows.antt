@@ -2,8 +2,7 @@
 use Rattle.std.specs.Prelude.{◌≡◌, ◌==◌, ◌<◌, ℕ, List, [], ◌∷◌, map, find, filter_map, IsSome, Option, option_map}
 use Rattle.store_columns.specs.Limits.{AreStored}
 use Rattle.store_columns.specs.declared.columns.{AnswerKey.AnswerKey, BareChallenge.BareChallenge, FlatRows.FlatRows, Owned.Owned}
-use Rattle.model_laws.specs.Distinct.{Distinct}
-use Rattle.model_laws.specs.Ordered.{Ascends, IsTable}
+use Rattle.model_laws.specs.{Distinct.Distinct, Ordered.Ascends, Ordered.IsTable}
 use Rattle.desk_model.specs.{Kept.EachOf, Tables.Tables}
 use Rattle.desk_model.specs.declared.rows.{AccountRow.AccountRow, AuthorizationRow.AuthorizationRow, Listed.Listed, Meta.Meta, OrderRow.OrderRow}
 use Rattle.store_book.specs.IsBook.{IsBookOf}

@@ -1,7 +1,6 @@
 -- Rows that stand by key, table by table, and the law of those of a book.
 use Rattle.std.specs.Prelude.{◌≡◌}
-use Rattle.store_columns.specs.{Columns.rows_columns, Limits.AreStored}
-use Rattle.store_columns.specs.declared.columns.{FlatRows.FlatRows, StoredRows.StoredRows}
+use Rattle.store_columns.specs.{Columns.rows_columns, Limits.AreStored, declared.columns.FlatRows.FlatRows, declared.columns.StoredRows.StoredRows}
 use Rattle.model_laws.specs.Ordered.{Ascends}
 use Rattle.desk_model.specs.Tables.{Tables}
 use Rattle.store_book.specs.{BookRows.AreBookRows, IsBook.IsBookOf, Passing.PlacedFrom}

@@ -1,6 +1,5 @@
 -- What a check goes by: the numbers of the rows that it finds, and all challenges.
-use Rattle.std.specs.Prelude.{ℕ, List}
-use Rattle.std.specs.List.{flat_map}
+use Rattle.std.specs.{Prelude.ℕ, Prelude.List, List.flat_map}
 use Rattle.desk_model.specs.declared.rows.{StatusFault.StatusFault, AuthorizationRow.AuthorizationRow, ChallengeRow.ChallengeRow}
 use Rattle.desk_model.specs.declared.rows.StatusFault.TheVariants as fault
 

@@ -1,14 +1,10 @@
 -- Which tables are a book.
 use Rattle.std.specs.Prelude.{◌+◌, ◌≡◌, IsSome}
-use Rattle.desk_model.specs.Questions.{account_on, authorization_on}
-use Rattle.desk_model.specs.{Tables.Tables, Kept.EachOf}
-use Rattle.desk_model.specs.declared.rows.OrderRow.{OrderRow}
-use Rattle.model_laws.specs.Distinct.{Distinct}
-use Rattle.model_laws.specs.Ordered.{Ascends, Below}
+use Rattle.desk_model.specs.{Questions.account_on, Questions.authorization_on, Tables.Tables, Kept.EachOf, declared.rows.OrderRow.OrderRow}
+use Rattle.model_laws.specs.{Distinct.Distinct, Ordered.Ascends, Ordered.Below}
 use Rattle.store_book.specs.FaultNumbers.{challenges_of}
-use Rattle.store_columns.specs.Flat.{AreReordered, flat}
-use Rattle.store_columns.specs.{Columns.rows_columns, Limits.AreStored, TextColumns.ColumnsAreTexts}
-use Rattle.store_columns.specs.declared.{columns.StoredRows.StoredRows, columns.FlatRows.FlatRows}
+use Rattle.store_columns.specs.{Flat.AreReordered, Flat.flat, Columns.rows_columns, Limits.AreStored, TextColumns.ColumnsAreTexts}
+use Rattle.store_columns.specs.{declared.columns.StoredRows.StoredRows, declared.columns.FlatRows.FlatRows}
 
 -- the numbers of each table ascend, those of each authorization's challenges, and the places of what each order lists
 pub record AreInOrder (T : Tables) : Type 0 where

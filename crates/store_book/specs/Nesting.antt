@@ -1,12 +1,9 @@
 -- Rows under the rows that they belong to.
 use Rattle.std.specs.Prelude.{ℕ, ◌≡◌, ◌==◌, List, [], ◌∷◌, cond, map}
-use Rattle.std.specs.{List.flat_map, List.Sorted.IsPermutation}
-use Rattle.std.specs.Ordering.{nat_cmp, ordering_then}
-use Rattle.std.specs.declared.cmp.Ordering.{Ordering}
+use Rattle.std.specs.{List.flat_map, List.Sorted.IsPermutation, Ordering.nat_cmp, Ordering.ordering_then, declared.cmp.Ordering.Ordering}
 use Rattle.desk_model.specs.Kept.{EachOf}
 use Rattle.model_laws.specs.Ordered.{Ascends}
-use Rattle.store_columns.specs.declared.columns.Owned.{Owned}
-use Rattle.store_columns.specs.Flat.{owned_by}
+use Rattle.store_columns.specs.{declared.columns.Owned.Owned, Flat.owned_by}
 
 -- what a row's children are, and the row with others
 pub record IsNesting {P T : Type 0} (number : P → ℕ) (children : P → List T) (with_children : P → List T → P) : Type 0 where

@@ -1,11 +1,9 @@
 -- Rows that pass one after the other.
 use Rattle.std.specs.Prelude.{◌≡◌, ◌+◌, ◌<◌, ◌≤◌, ◌⊎◌, ℕ, List, [], ◌∷◌, Option, None, Some, map}
-use Rattle.desk_model.specs.Kept.{EachOf}
+use Rattle.desk_model.specs.{Kept.EachOf, declared.rows.Counters.Counters, declared.rows.Listed.Listed, declared.rows.Meta.Meta}
 use Rattle.model_laws.specs.Ordered.{Ascends, Below}
 use Rattle.store_columns.specs.declared.columns.Owned.{Owned}
-use Rattle.desk_model.specs.declared.rows.{Counters.Counters, Listed.Listed, Meta.Meta}
-use Rattle.store_book.specs.BookRows.{AreListed, IsAmong, Rise}
-use Rattle.store_book.specs.declared.counter.Counter.{Counter}
+use Rattle.store_book.specs.{BookRows.AreListed, BookRows.IsAmong, BookRows.Rise, declared.counter.Counter.Counter}
 
 -- the number is above that of the row before, and was given
 pub record Counts (old : Counter) (number : ℕ) (new : Counter) : Type 0 where

@@ -1,13 +1,11 @@
 -- Which contacts a text spells, by the value that it is read as.
-use Rattle.std.proofs.Common.{◌≡◌, ◌≢◌, ◌↔◌, ℕ, List, map, Bool, true, false, Option, Some, None, sym, ap, ◌∙◌}
+use Rattle.std.proofs.Common.{◌≡◌, ◌≢◌, ◌↔◌, ℕ, List, map, Bool, true, false, Option, Some, None, ap, ◌∙◌, arith}
+use Rattle.std.proofs.lemmas.Bool.Decides.{nat_tests}
 use Rattle.std.specs.Prelude.{IsTrue}
-use Rattle.serde_json.specs.Data.{Data, string}
-use Rattle.serde_json.specs.Read.{read}
-use Rattle.serde_json.specs.Written.{compact_text, has_float}
+use Rattle.serde_json.specs.{Data.Data, Data.string, Read.read, Written.compact_text, Written.has_float}
 use Rattle.desk_model.specs.Json.{list}
 use Rattle.json_texts.proofs.PlainLists.{no_float_in}
-use Rattle.store_columns.specs.Reading.{IsRead, Unlimited}
-use Rattle.store_columns.specs.Spelling.{contacts_text}
+use Rattle.store_columns.specs.{Reading.IsRead, Reading.Unlimited, Spelling.contacts_text}
 use Rattle.store_columns.proofs.JsonTexts.{read-contacts_text}
 
 -- the list of these contacts
@@ -16,8 +14,7 @@ contacts_list contacts = list (map string contacts)
 
 -- what is no JSON spells none
 pub none_of_no_value : (text : List ℕ) → read text ≡ None → (contacts : List (List ℕ)) → text ≢ contacts_text contacts
-none_of_no_value text unread contacts same = let back : read text ≡ Some (contacts_list contacts) = ap read same
-    ∙ read-contacts_text contacts in cc (unread, back)
+none_of_no_value text unread contacts same = grind (arith, nat_tests, read-contacts_text)
 
 -- a text of contacts is read as their list
 list_of : (text : List ℕ) (d : Data) → read text ≡ Some d → (contacts : List (List ℕ)) → text ≡ contacts_text contacts → d ≡ contacts_list contacts
@@ -32,10 +29,7 @@ none_of_other_value text d there other contacts same = other contacts (list_of t
 pub none_of_loose_text : (text : List ℕ) (d : Data) (compact : Bool) → read text ≡ Some d
     → (has_float d ≡ false → IsTrue compact ↔ (text ≡ compact_text d)) → compact ≡ false
     → (contacts : List (List ℕ)) → text ≢ contacts_text contacts
-none_of_loose_text text d compact there tells loose contacts same =
-    let is : d ≡ contacts_list contacts = list_of text d there contacts same in
-    let tight : compact ≡ true = (tells (no_float_in contacts d is)).1 (same ∙ sym (ap compact_text is)) in
-    cc (loose, tight)
+none_of_loose_text text d compact there tells loose contacts same = grind (arith, nat_tests, list_of, no_float_in)
 
 -- a compact list of strings is spelled by these
 of_compact_text : (text : List ℕ) (d : Data) (compact : Bool) (contacts : List (List ℕ)) → d ≡ contacts_list contacts

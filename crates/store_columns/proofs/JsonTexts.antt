@@ -4,13 +4,10 @@ use Rattle.json.specs.{Token.Token, Lex.tokens, Print.ArePrintable}
 use Rattle.json.specs.Json as json
 use Rattle.json.specs.Tree as tree
 use Rattle.json.proofs.Printed.{Tokens.tokens-print, Trees.value-json_tokens}
-use Rattle.serde_json.specs.Data.{Data, string, Items}
 use Rattle.serde_json.specs.Read.{read, of_json, of_items, max_depth}
-use Rattle.serde_json.specs.Written.{compact_text, outline, items_outline}
-use Rattle.serde_json.specs.View.{items_of}
+use Rattle.serde_json.specs.{Data.Data, Data.string, Data.Items, Written.compact_text, Written.outline, Written.items_outline, View.items_of}
 use Rattle.serde_json.proofs.Texts.{print-outline}
-use Rattle.desk_model.specs.Json.{list}
-use Rattle.desk_model.specs.declared.call.OrderProblem.{OrderProblem}
+use Rattle.desk_model.specs.{Json.list, declared.call.OrderProblem.OrderProblem}
 use Rattle.store_columns.specs.Spelling.{contacts_text, problem_document, problem_text}
 
 -- what the tokens of a value are read as

@@ -1,8 +1,9 @@
 -- Different statuses and kinds have different texts: each is found again by its text.
-use Rattle.std.proofs.Common.{◌≡◌, ℕ, List, [], ◌∷◌, Option, Some, Bool, true, false, pos, refl, sym, ap, ◌∙◌, arith}
+use Rattle.std.proofs.Common.{◌≡◌, ℕ, List, [], ◌∷◌, Option, Some, sym, ap, ◌∙◌, arith}
+use Rattle.std.proofs.{lemmas.Option.same_Some, lemmas.Bool.Decides.nat_tests}
 use Rattle.std.specs.Prelude.{bytes_eq, find}
-use Rattle.std.proofs.lemmas.Option.{same_Some}
 use Rattle.desk_model.specs.Document.{account_status_text, authorization_status_text, challenge_status_text, kind_text, order_status_text}
+use Rattle.desk_model.specs.Facts.{ending_text, end_kind_text, outcome_text}
 use Rattle.desk_model.specs.declared.entry.Ending.TheVariants as ending
 use Rattle.desk_model.specs.declared.entry.Outcome.TheVariants as outcome
 use Rattle.desk_model.specs.declared.status.EndKind.TheVariants as end
@@ -11,8 +12,6 @@ use Rattle.desk_model.specs.declared.status.AccountStatus.TheVariants as account
 use Rattle.desk_model.specs.declared.status.AuthzStatus.TheVariants as authz
 use Rattle.desk_model.specs.declared.status.ChallengeStatus.TheVariants as chall
 use Rattle.desk_model.specs.declared.status.OrderStatus.TheVariants as order
-use Rattle.store_columns.specs.Columns.{wildcard_column}
-use Rattle.desk_model.specs.Facts.{ending_text, end_kind_text, outcome_text}
 
 -- the first that has this text
 abbrev pub found_by : {X : Type 0} → (X → List ℕ) → List X → List ℕ → Option X
@@ -30,57 +29,40 @@ told_apart text all found x y same = same_Some x y (sym (found x) ∙ ap (found_
 -- the statuses of an account
 pub account_statuses : AreSpelled account_status_text (account.Valid ∷ account.Deactivated ∷ account.Revoked ∷ [])
 unfolding AreSpelled
-account_statuses account.Valid = refl
-account_statuses _ = refl
+account_statuses h = grind (arith, nat_tests)
 
 -- of an order
 pub order_statuses : AreSpelled order_status_text (order.Pending ∷ order.Ready ∷ order.Processing ∷ order.Valid ∷ order.Invalid ∷ [])
 unfolding AreSpelled
-order_statuses order.Pending = refl
-order_statuses _ = refl
+order_statuses h = grind (arith, nat_tests)
 
 -- of an authorization
 pub authorization_statuses : AreSpelled authorization_status_text
     (authz.Pending ∷ authz.Valid ∷ authz.Invalid ∷ authz.Deactivated ∷ authz.Expired ∷ authz.Revoked ∷ [])
 unfolding AreSpelled
-authorization_statuses authz.Pending = refl
-authorization_statuses _ = refl
+authorization_statuses h = grind (arith, nat_tests)
 
 -- of a challenge
 pub challenge_statuses : AreSpelled challenge_status_text (chall.Pending ∷ chall.Processing ∷ chall.Valid ∷ chall.Invalid ∷ [])
 unfolding AreSpelled
-challenge_statuses chall.Pending = refl
-challenge_statuses _ = refl
+challenge_statuses h = grind (arith, nat_tests)
 
 -- the kinds of a challenge
 pub kinds : AreSpelled kind_text (kind.Http01 ∷ kind.Dns01 ∷ [])
 unfolding AreSpelled
-kinds kind.Http01 = refl
-kinds kind.Dns01 = refl
+kinds h = grind (arith, nat_tests)
 
 -- how an account ends
 pub endings : AreSpelled ending_text (ending.Deactivated ∷ ending.Revoked ∷ [])
 unfolding AreSpelled
-endings ending.Deactivated = refl
-endings ending.Revoked = refl
+endings h = grind (arith, nat_tests)
 
 -- how an authorization ends
 pub end_kinds : AreSpelled end_kind_text (end.Invalid ∷ end.Deactivated ∷ end.Revoked ∷ [])
 unfolding AreSpelled
-end_kinds end.Invalid = refl
-end_kinds _ = refl
+end_kinds h = grind (arith, nat_tests)
 
 -- what a validation shows
 pub outcomes : AreSpelled outcome_text (outcome.Good ∷ outcome.IncorrectResponse ∷ outcome.Connection ∷ outcome.Dns ∷ [])
 unfolding AreSpelled
-outcomes outcome.Good = refl
-outcomes _ = refl
-
-unlike : pos 0 ≡ pos 1 → ⊥
-unlike same = let numbers : ◌≡◌ {A = ℕ} 0 1 = cc same in omega (arith, numbers)
-
-pub wildcard_column-apart : (b c : Bool) → wildcard_column b ≡ wildcard_column c → b ≡ c
-wildcard_column-apart true true same = refl
-wildcard_column-apart true false same = absurd (unlike (sym same))
-wildcard_column-apart false true same = absurd (unlike same)
-wildcard_column-apart false false same = refl
+outcomes h = grind (arith, nat_tests)

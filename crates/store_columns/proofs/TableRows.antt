@@ -1,6 +1,6 @@
 -- Tables of columns, row by row.
-use Rattle.std.proofs.Common.{◌≡◌, ◌≢◌, List, [], ◌∷◌, ◌++◌, map, Some, sym, ap, ◌∙◌, subst, append_assoc}
-use Rattle.std.proofs.lemmas.List.{map-append}
+use Rattle.std.proofs.Common.{◌≡◌, ◌≢◌, List, [], ◌∷◌, ◌++◌, map, Some, append_assoc, arith}
+use Rattle.std.proofs.{lemmas.List.map-append, lemmas.Bool.Decides.nat_tests}
 use Rattle.desk_model.specs.Kept.{EachOf}
 use Rattle.store_columns.specs.Reading.{IsRead}
 
@@ -19,12 +19,7 @@ pub record IsReadSoFar {C R : Type 0} (write : R → C) (P : R → Type 0) (tabl
 pub read_more : {C R : Type 0} (write : R → C) (P : R → Type 0) (table done rest after : List C) (rows new : List R) (c : C) (row : R)
     → IsReadSoFar write P table done rest rows → rest ≡ c ∷ after → IsRead write P c (Some row) → new ≡ rows ++ row ∷ []
     → IsReadSoFar write P table (done ++ c ∷ []) after new
-read_more write P table done rest after rows new c row before next found pushed =
-    record {
-      written = (λ i. before.written i ++ found.1 i ∷ []) ∙ sym (map-append write rows (row ∷ [])) ∙ ap (map write) (sym pushed);
-      stored = subst (EachOf P) (sym pushed) (each_more P rows row before.stored found.0);
-      whole = before.whole ∙ ap (λ l. done ++ l) next ∙ sym (append_assoc done (c ∷ []) after);
-    }
+read_more write P table done rest after rows new c row before next found pushed = grind (arith, nat_tests, map-append, each_more, append_assoc)
 
 -- columns that no row writes spoil a table
 spoilt : {C R : Type 0} (write : R → C) (P : R → Type 0) (done after : List C) (c : C) → ((row : R) → P row → c ≢ write row)
@@ -38,5 +33,4 @@ spoilt write P (d ∷ done) after c none (row ∷ rows) kept same = spoilt write
 pub not_read : {C R : Type 0} (write : R → C) (P : R → Type 0) (table done rest after : List C) (read : List R) (c : C)
     → IsReadSoFar write P table done rest read → rest ≡ c ∷ after → ((row : R) → P row → c ≢ write row)
     → (rows : List R) → EachOf P rows → table ≢ map write rows
-not_read write P table done rest after read c before next none rows kept same =
-    spoilt write P done after c none rows kept (ap (λ l. done ++ l) (sym next) ∙ sym before.whole ∙ same)
+not_read write P table done rest after read c before next none rows kept same = grind (arith, nat_tests, spoilt)

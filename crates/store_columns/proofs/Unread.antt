@@ -1,10 +1,9 @@
 -- An order that is read without the bytes of its CSR and its certificate is in its limits just where the whole one is.
-use Rattle.std.proofs.Common.{◌≡◌, ℕ, ℤ, pos, List, [], Option, Some, None, option_map, refl, sym, ap, ◌∙◌}
+use Rattle.std.proofs.Common.{◌≡◌, ℕ, List, [], Option, Some, None, option_map, refl, ap, ◌∙◌, arith}
+use Rattle.std.proofs.lemmas.Bool.Decides.{nat_tests}
 use Rattle.desk_model.specs.declared.{rows.DatedBytes.DatedBytes, rows.OrderRow.OrderRow}
-use Rattle.store_columns.specs.Alike.{AreAlikeOrders, without_bytes}
-use Rattle.store_columns.specs.Columns.{dated_bytes_columns, order_columns}
-use Rattle.store_columns.specs.Limits.{AreDatedBytes, IfRecorded, IsStoredOrder}
-use Rattle.store_columns.specs.declared.columns.OrderColumns.{OrderColumns}
+use Rattle.store_columns.specs.{Alike.AreAlikeOrders, Alike.without_bytes, Columns.dated_bytes_columns, Columns.order_columns, Limits.AreDatedBytes}
+use Rattle.store_columns.specs.{Limits.IfRecorded, Limits.IsStoredOrder, declared.columns.OrderColumns.OrderColumns}
 
 -- what was kept, with these bytes
 abbrev filled : Option DatedBytes → Option (List ℕ) → Option DatedBytes
@@ -20,35 +19,24 @@ emptied (Some kept) = Some (record kept { bytes = [] })
 -- the column of the bytes
 filled_bytes : (kept : Option DatedBytes) (bytes : Option (List ℕ)) → option_map (λ _. []) bytes ≡ (dated_bytes_columns kept).1
     → bytes ≡ (dated_bytes_columns (filled kept bytes)).1
-filled_bytes None None same = refl
-filled_bytes None (Some bytes) same = absurd (cc same)
-filled_bytes (Some kept) None same = absurd (cc same)
-filled_bytes (Some kept) (Some bytes) same = refl
+filled_bytes kept bytes h = grind (arith, nat_tests)
 
 -- that of their date
 filled_date : (kept : Option DatedBytes) (bytes : Option (List ℕ)) → option_map (λ _. []) bytes ≡ (dated_bytes_columns kept).1
     → (dated_bytes_columns kept).0 ≡ (dated_bytes_columns (filled kept bytes)).0
-filled_date None None same = refl
-filled_date None (Some bytes) same = absurd (cc same)
-filled_date (Some kept) None same = absurd (cc same)
-filled_date (Some kept) (Some bytes) same = refl
+filled_date kept bytes h = grind (arith, nat_tests)
 
 filled_recorded : (kept : Option DatedBytes) (bytes : Option (List ℕ)) → IfRecorded AreDatedBytes kept → IfRecorded AreDatedBytes (filled kept bytes)
-filled_recorded None bytes dated = dated
-filled_recorded (Some kept) None dated = tt
-filled_recorded (Some kept) (Some bytes) dated = dated
+filled_recorded kept bytes h = grind (arith, nat_tests)
 
 emptied_bytes : (kept : Option DatedBytes) → option_map (λ _. []) (dated_bytes_columns kept).1 ≡ (dated_bytes_columns (emptied kept)).1
-emptied_bytes None = refl
-emptied_bytes (Some kept) = refl
+emptied_bytes kept = grind (arith, nat_tests)
 
 emptied_date : (kept : Option DatedBytes) → (dated_bytes_columns kept).0 ≡ (dated_bytes_columns (emptied kept)).0
-emptied_date None = refl
-emptied_date (Some kept) = refl
+emptied_date kept = grind (arith, nat_tests)
 
 emptied_recorded : (kept : Option DatedBytes) → IfRecorded AreDatedBytes kept → IfRecorded AreDatedBytes (emptied kept)
-emptied_recorded None dated = dated
-emptied_recorded (Some kept) dated = dated
+emptied_recorded kept h = grind (arith, nat_tests)
 
 -- the whole order of columns that were read without these bytes
 pub whole_of_read : (columns : OrderColumns) (read : OrderRow) → IsStoredOrder read → without_bytes columns ≡ order_columns read

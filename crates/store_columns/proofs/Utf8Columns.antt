@@ -1,30 +1,22 @@
 -- Each TEXT column of rows that hold texts is UTF-8.
-use Rattle.std.proofs.Common.{ℕ, List, [], ◌∷◌, map, Option, Some, None, option_map, Bool, false, IsUtf8, IfSome, subst, refl, ◌≡◌, true, cond}
-use Rattle.std.specs.List.{list_all}
-use Rattle.std.specs.Prelude.{bytes_eq, codes}
-use Rattle.std.proofs.lemmas.{Bool.and_parts, Option.same_Some}
+use Rattle.std.proofs.Common.{ℕ, List, [], ◌∷◌, map, Option, Some, option_map, Bool, false, IsUtf8, IfSome, subst, refl, ◌≡◌, true, cond, arith}
+use Rattle.std.proofs.{lemmas.Bool.and_parts, lemmas.Option.same_Some, lemmas.Str.IsUtf8-append, lemmas.Str.IsUtf8-nil, lemmas.Bool.Decides.nat_tests}
+use Rattle.std.specs.{List.list_all, Prelude.bytes_eq, Prelude.codes}
 use Rattle.store_columns.proofs.SpellingApart.{AreSpelled, found_by, account_statuses, authorization_statuses, challenge_statuses}
 use Rattle.store_columns.proofs.SpellingApart.{end_kinds, endings, kinds, order_statuses, outcomes}
-use Rattle.std.proofs.lemmas.Str.{IsUtf8-append, IsUtf8-nil}
-use Rattle.json.specs.Token.{Token}
-use Rattle.json.specs.Print.{print_from, ends, separator, token_text}
+use Rattle.json.specs.{Token.Token, Print.print_from, Print.ends, Print.token_text}
 use Rattle.json.specs.Tree as tree
 use Rattle.json.proofs.Printed.Utf8.{are_ascii, IsUtf8-are_ascii, IsUtf8-key, IsUtf8-quoted, IsUtf8-separator}
-use Rattle.serde_json.specs.Data.{Data, string}
-use Rattle.serde_json.specs.View.{items_of}
-use Rattle.serde_json.specs.Written.{compact_text, items_outline, outline}
+use Rattle.serde_json.specs.{Data.Data, Data.string, View.items_of, Written.compact_text, Written.items_outline, Written.outline}
 use Rattle.serde_json.proofs.Texts.{print-outline}
 use Rattle.desk_model.specs.Document.{account_status_text, authorization_status_text, challenge_status_text, kind_text, order_status_text}
-use Rattle.desk_model.specs.{Json.list, Kept.EachOf}
 use Rattle.desk_model.specs.Texts.{AreTexts, HoldsTextAccount, HoldsTextAuthorization, HoldsTextMeta, HoldsTextOrder, IsTextProblem}
-use Rattle.desk_model.specs.declared.{call.OrderProblem.OrderProblem, rows.AccountRow.AccountRow, rows.AuthorizationRow.AuthorizationRow}
-use Rattle.desk_model.specs.declared.{rows.DatedProblem.DatedProblem, rows.OrderRow.OrderRow}
+use Rattle.desk_model.specs.{Json.list, Kept.EachOf, declared.call.OrderProblem.OrderProblem, Facts.ending_text, Facts.end_kind_text, Facts.outcome_text}
+use Rattle.desk_model.specs.declared.rows.{AccountRow.AccountRow, AuthorizationRow.AuthorizationRow, DatedProblem.DatedProblem, OrderRow.OrderRow}
 use Rattle.store_columns.specs.Columns.{account_columns, authorization_columns, challenge_columns, meta_columns, order_columns, rows_columns}
-use Rattle.store_columns.specs.Laws.{TextsAreWritten}
-use Rattle.desk_model.specs.Facts.{ending_text, end_kind_text, outcome_text}
-use Rattle.store_columns.specs.Spelling.{contacts_text, problem_document, problem_text}
 use Rattle.store_columns.specs.TextColumns.{HasTextAccount, HasTextAuthorization, HasTextChallenge, HasTextMeta, HasTextOrder, ColumnsAreTexts, RowsHoldTexts}
-use Rattle.store_columns.specs.declared.columns.{BareChallenge.BareChallenge, FlatRows.FlatRows, Owned.Owned}
+use Rattle.store_columns.specs.{Laws.TextsAreWritten, Spelling.contacts_text, Spelling.problem_document, Spelling.problem_text}
+use Rattle.store_columns.specs.{declared.columns.BareChallenge.BareChallenge, declared.columns.FlatRows.FlatRows, declared.columns.Owned.Owned}
 
 -- ---- JSON
 
@@ -36,8 +28,7 @@ IsTextToken t = IsUtf8 (token_text t)
 printed_text : (after_value : Bool) (ts : List Token) → EachOf IsTextToken ts → IsUtf8 (print_from after_value ts)
 unfolding print_from
 printed_text after_value [] h = IsUtf8-nil
-printed_text after_value (t ∷ ts) h =
-    IsUtf8-append (separator after_value t) _ (IsUtf8-separator after_value t) (IsUtf8-append (token_text t) _ h.0 (printed_text (ends t) ts h.1))
+printed_text after_value (t ∷ ts) h = grind (arith, nat_tests, IsUtf8-append, IsUtf8-separator, (printed_text (ends t) ts h.1))
 
 -- the compact text of a value whose tokens are written as texts
 compact_is_text : (d : Data) → EachOf IsTextToken (tree.json_tokens (outline d)) → IsUtf8 (compact_text d)
@@ -78,8 +69,7 @@ found_is_text text (y ∷ ys) x is ascii =
   where
     by : (b : Bool) → cond b (Some y) (found_by text ys (text x)) ≡ Some x → (found_by text ys (text x) ≡ Some x → IsUtf8 (text x))
         → IsUtf8 (text y) → IsUtf8 (text x)
-    by true is rest own = subst (λ z. IsUtf8 (text z)) (same_Some y x is) own
-    by false is rest own = rest is
+    by b h k l = grind (arith, nat_tests, same_Some)
 
 -- so each that is spelled so does
 spelled_is_text : {X : Type 0} (text : X → List ℕ) (all : List X) → AreSpelled text all → list_all (λ x. are_ascii (text x)) all ≡ true
@@ -90,13 +80,11 @@ spelled_is_text text all found ascii x = found_is_text text all x (found x) asci
 -- what is written of a fact, if it is recorded
 written : {X : Type 0} (P : X → Type 0) (write : X → List ℕ) → ((x : X) → P x → IsUtf8 (write x)) → (o : Option X) → IfSome o P →
     IfSome (option_map write o) IsUtf8
-written P write text None h = tt
-written P write text (Some x) h = text x h
+written P write h o k = grind (arith, nat_tests)
 
 -- and of one whose words are always texts
 worded : {X : Type 0} (write : X → List ℕ) → ((x : X) → IsUtf8 (write x)) → (o : Option X) → IfSome (option_map write o) IsUtf8
-worded write text None = tt
-worded write text (Some x) = text x
+worded write h o = grind (arith, nat_tests)
 
 -- ---- rows
 

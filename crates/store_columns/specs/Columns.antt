@@ -10,9 +10,8 @@ use Rattle.store_columns.specs.Spelling.{contacts_text, problem_text}
 use Rattle.store_columns.specs.declared.{columns.AccountColumns.AccountColumns, columns.AuthzColumns.AuthzColumns, columns.ChallColumns.ChallColumns}
 use Rattle.store_columns.specs.declared.{columns.ChallKeyColumns.ChallKeyColumns, columns.MetaColumns.MetaColumns, columns.NonceColumns.NonceColumns}
 use Rattle.store_columns.specs.declared.{columns.OrderAuthzColumns.OrderAuthzColumns, columns.OrderColumns.OrderColumns, columns.StoredRows.StoredRows}
-use Rattle.store_columns.specs.declared.{columns.OrderSummaryColumns.OrderSummaryColumns}
-use Rattle.store_columns.specs.declared.{columns.AnswerKey.AnswerKey, columns.BareChallenge.BareChallenge, columns.FlatRows.FlatRows}
-use Rattle.store_columns.specs.declared.{columns.Owned.Owned}
+use Rattle.store_columns.specs.declared.{columns.OrderSummaryColumns.OrderSummaryColumns, columns.AnswerKey.AnswerKey, columns.BareChallenge.BareChallenge}
+use Rattle.store_columns.specs.declared.{columns.FlatRows.FlatRows, columns.Owned.Owned}
 
 -- ---- the columns of one fact
 

@@ -1,9 +1,8 @@
 -- The rows of a book, table by table.
 use Rattle.std.specs.Prelude.{ℕ, List, [], ◌∷◌, map, Option, None, option_map, filter_map}
 use Rattle.std.specs.{List.flat_map, List.Sorted.IsPermutation}
-use Rattle.desk_model.specs.Tables.{Tables}
-use Rattle.desk_model.specs.declared.{objects.Answer.Answer, rows.AuthorizationRow.AuthorizationRow, rows.ChallengeRow.ChallengeRow}
-use Rattle.desk_model.specs.declared.rows.{Listed.Listed, OrderRow.OrderRow}
+use Rattle.desk_model.specs.{Tables.Tables, declared.objects.Answer.Answer, declared.rows.AuthorizationRow.AuthorizationRow}
+use Rattle.desk_model.specs.{declared.rows.ChallengeRow.ChallengeRow, declared.rows.Listed.Listed, declared.rows.OrderRow.OrderRow}
 use Rattle.store_columns.specs.declared.columns.{AnswerKey.AnswerKey, BareChallenge.BareChallenge, Owned.Owned, FlatRows.FlatRows}
 
 -- rows that belong to the row of this number

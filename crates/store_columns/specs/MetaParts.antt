@@ -1,9 +1,7 @@
 -- Two parts of the row of `meta`: what the operator fixes, and what is counted.
 use Rattle.std.specs.Prelude.{◌≡◌, pos, IsTrue}
-use Rattle.desk_model.specs.Terms.{Terms, are_terms}
-use Rattle.store_columns.specs.Limits.{IsCounter, IsMoment}
-use Rattle.store_columns.specs.declared.columns.MetaColumns.{MetaColumns}
-use Rattle.desk_model.specs.declared.rows.Counters.{Counters}
+use Rattle.desk_model.specs.{Terms.Terms, Terms.are_terms, declared.rows.Counters.Counters}
+use Rattle.store_columns.specs.{Limits.IsCounter, Limits.IsMoment, declared.columns.MetaColumns.MetaColumns}
 
 -- the columns hold this policy
 pub record IsPolicy (columns : MetaColumns) (policy : Terms) : Type 0 where

@@ -1,10 +1,8 @@
 -- The texts of columns. Statuses and kinds are written as RFC 8555 spells them (`Document` of desk_model), ends and
 -- outcomes as `Facts` of desk_model says.
 use Rattle.std.specs.Prelude.{ℕ, List, [], ◌∷◌, map, codes}
-use Rattle.serde_json.specs.Data.{Data, string}
-use Rattle.serde_json.specs.Written.{compact_text}
-use Rattle.desk_model.specs.Json.{document, list}
-use Rattle.desk_model.specs.declared.call.OrderProblem.{OrderProblem}
+use Rattle.serde_json.specs.{Data.Data, Data.string, Written.compact_text}
+use Rattle.desk_model.specs.{Json.document, Json.list, declared.call.OrderProblem.OrderProblem}
 
 -- contacts as a JSON list of strings
 abbrev pub contacts_text : List (List ℕ) → List ℕ

@@ -1,10 +1,8 @@
 -- Which columns are TEXT: what stands in them is UTF-8.
 use Rattle.std.specs.Prelude.{IsUtf8, IfSome}
-use Rattle.desk_model.specs.Kept.{EachOf}
-use Rattle.desk_model.specs.Texts.{HoldsTextAccount, HoldsTextAuthorization, HoldsTextMeta, HoldsTextOrder}
-use Rattle.store_columns.specs.declared.{columns.AccountColumns.AccountColumns, columns.AuthzColumns.AuthzColumns, columns.ChallColumns.ChallColumns}
-use Rattle.store_columns.specs.declared.{columns.MetaColumns.MetaColumns, columns.OrderColumns.OrderColumns, columns.StoredRows.StoredRows}
-use Rattle.store_columns.specs.declared.{columns.FlatRows.FlatRows, columns.OrderSummaryColumns.OrderSummaryColumns}
+use Rattle.desk_model.specs.{Kept.EachOf, Texts.HoldsTextAccount, Texts.HoldsTextAuthorization, Texts.HoldsTextMeta, Texts.HoldsTextOrder}
+use Rattle.store_columns.specs.declared.columns.{AccountColumns.AccountColumns, AuthzColumns.AuthzColumns, ChallColumns.ChallColumns, MetaColumns.MetaColumns}
+use Rattle.store_columns.specs.declared.columns.{OrderColumns.OrderColumns, StoredRows.StoredRows, FlatRows.FlatRows, OrderSummaryColumns.OrderSummaryColumns}
 
 -- each text of the rows is UTF-8; the other tables hold none
 pub record RowsHoldTexts (rows : FlatRows) : Type 0 where

@@ -1,13 +1,10 @@
 -- The tables of a history are a book.
-use Rattle.std.proofs.Common.{◌≤◌, ◌<◌, ℕ, ◌+◌, List, [], ◌∷◌, ◌++◌, length, map, Some, refl, true, false, Bool, cond, arith}
-use Rattle.std.specs.Prelude.{◌==◌, IsSome, find}
-use Rattle.std.specs.List.{flat_map}
-use Rattle.model_laws.proofs.Basics.{each, each-map, each_all}
-use Rattle.model_laws.proofs.{Keeps.row_keys_differ, RowLists.ascends_from, Distinctness.ascends_distinct}
-use Rattle.model_laws.proofs.Numbers.{AreNumbered, challenges_count}
-use Rattle.model_laws.proofs.OrderFacts.{IsFound, listed_found, places_ascend}
+use Rattle.std.proofs.Common.{◌≤◌, ◌<◌, ℕ, ◌+◌, List, [], ◌∷◌, ◌++◌, length, map, refl, Bool, arith}
+use Rattle.std.specs.{Prelude.◌==◌, Prelude.IsSome, Prelude.find, List.flat_map}
 use Rattle.model_laws.proofs.Recorded.{below_map, challenges_ordered, numbered_below, tables_ordered}
-use Rattle.model_laws.proofs.References.{authorizations_have_accounts, orders_have_accounts}
+use Rattle.model_laws.proofs.{Basics.each, Basics.each-map, Basics.each_all, Keeps.row_keys_differ, RowLists.ascends_from, Distinctness.ascends_distinct}
+use Rattle.model_laws.proofs.{Numbers.AreNumbered, Numbers.challenges_count, OrderFacts.IsFound, OrderFacts.listed_found, OrderFacts.places_ascend}
+use Rattle.model_laws.proofs.{References.authorizations_have_accounts, References.orders_have_accounts}
 use Rattle.model_laws.specs.Ordered.{Ascends, Below}
 use Rattle.desk_model.specs.{Account.accounts, Entry.History, Kept.EachOf, Legal.EachFollows, Order.orders}
 use Rattle.desk_model.specs.Authorization.{authorizations, count_challenges}
@@ -25,8 +22,7 @@ ascends_front number n (x ∷ xs) ys h = (h.0, ascends_front number (number x + 
 -- and through the second
 ascends_back : {X : Type 0} (number : X → ℕ) (n : ℕ) (xs ys : List X) → Ascends number n (xs ++ ys) → Ascends number n ys
 ascends_back number n [] ys h = h
-ascends_back number n (x ∷ xs) ys h =
-    let start : n ≤ number x = h.0 in ascends_from number n (number x + 1) ys (omega arith) (ascends_back number (number x + 1) xs ys h.1)
+ascends_back number n (x ∷ xs) ys h = grind (arith, ascends_from, (ascends_back number (number x + 1) xs ys h.1))
 
 -- and so those that ascend through the lists of all rows
 parts_ascend : {X Y : Type 0} (number : Y → ℕ) (part : X → List Y) (n : ℕ) (xs : List X) → Ascends number n (flat_map part xs) →
@@ -79,12 +75,7 @@ keep_counters F t =
 -- what is found among the items is found among their rows
 some_map : {X Y : Type 0} (p : Y → Bool) (f : X → Y) (xs : List X) → IsSome (find (λ x. p (f x)) xs) → IsSome (find p (map f xs))
 some_map p f [] h = cc
-some_map p f (x ∷ xs) h = by (p (f x)) h (some_map p f xs)
-  where
-    by : (b : Bool) → IsSome (cond b (Some x) (find (λ y. p (f y)) xs)) → (IsSome (find (λ y. p (f y)) xs) → IsSome (find p (map f xs))) →
-        IsSome (cond b (Some (f x)) (find p (map f xs)))
-    by true k ih = refl
-    by false k ih = ih k
+some_map p f (x ∷ xs) h = grind (arith, (some_map p f xs))
 
 -- each authorization of an order has its row
 listed_rows_found : (F : History) (t place : ℕ) (ns : List ℕ) → EachOf (IsFound F) ns →

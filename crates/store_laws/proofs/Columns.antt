@@ -1,34 +1,25 @@
 -- The columns of a book's rows, in any order, tell the book.
-use Rattle.std.proofs.Common.{◌≡◌, ℕ, List, [], ◌∷◌, length, map, set, get_or, refl, sym, ap, subst, ◌∙◌, arith}
-use Rattle.std.specs.List.{AllByRecursion, swap}
-use Rattle.std.specs.List.Sorted.{IsPermutation}
-use Rattle.std.proofs.Math.ListN.{get_or-map}
-use Rattle.std.proofs.lemmas.List.{length-map, map-set}
-use Rattle.std.proofs.lemmas.List.Elements.{All-from_recursion, recursion_from_All}
+use Rattle.std.proofs.Common.{◌≡◌, ℕ, List, length, map, refl, sym, ap, subst, ◌∙◌, arith, rules}
 use Rattle.std.proofs.lemmas.List.Sorted.{All-permutation, IsPermutation-keeps, IsPermutation-refl, IsPermutation-swap, IsPermutation-sym, IsPermutation-trans}
-use Rattle.store_columns.specs.Columns.{account_columns, authorization_columns, challenge_columns, key_columns, listed_columns, meta_columns}
-use Rattle.store_columns.specs.Columns.{nonce_columns, order_columns, rows_columns}
-use Rattle.store_columns.specs.Limits.{AreStored, IsStoredAccount, IsStoredAuthorization, IsStoredChallenge, IsStoredKey, IsStoredListed}
-use Rattle.store_columns.specs.Limits.{IsStoredMeta, IsStoredNonce, IsStoredOrder}
-use Rattle.store_columns.specs.declared.columns.StoredRows.{StoredRows}
-use Rattle.desk_model.specs.{Entry.History, History.clock, Kept.EachOf, Legal.Legal}
-use Rattle.desk_model.specs.Tables.{picture, Tables}
+use Rattle.std.proofs.{Math.ListN.get_or-map, lemmas.List.length-map, lemmas.List.map-set, lemmas.List.Elements.All-from_recursion}
+use Rattle.std.proofs.{lemmas.List.Elements.recursion_from_All}
+use Rattle.std.specs.{List.AllByRecursion, List.swap, List.Sorted.IsPermutation}
+use Rattle.store_columns.specs.Columns.{account_columns, authorization_columns, challenge_columns, key_columns, listed_columns, meta_columns, nonce_columns}
+use Rattle.store_columns.specs.Columns.{order_columns, rows_columns}
+use Rattle.store_columns.specs.Limits.{AreStored, IsStoredAccount, IsStoredAuthorization, IsStoredChallenge, IsStoredKey, IsStoredListed, IsStoredMeta}
+use Rattle.store_columns.specs.Limits.{IsStoredNonce, IsStoredOrder}
+use Rattle.store_columns.specs.{declared.columns.StoredRows.StoredRows, Flat.flat}
+use Rattle.desk_model.specs.{Entry.History, History.clock, Kept.EachOf, Legal.Legal, Tables.picture, Tables.Tables}
 use Rattle.store_laws.proofs.{Books.tables_book, Rows.picture_stored}
 use Rattle.store_laws.specs.Told.{AreReorderedColumns, IsOnlyBookOf}
 use Rattle.store_book.proofs.SoundBooks.{same-books, stored-told}
-use Rattle.store_columns.specs.Flat.{flat}
 use Rattle.store_book.specs.IsBook.{IsBook, IsBookOf, IsBookOfStored}
 
 -- ---- one table
 
 -- two columns change places as their rows do
 map-swap : {X C : Type 0} (f : X → C) (xs : List X) (i j : ℕ) → map f (swap xs i j) ≡ swap (map f xs) i j
-map-swap f [] i j = refl
-map-swap f (d ∷ ys) i j =
-    let xs = d ∷ ys in
-    map-set f (set xs i (get_or xs j d)) j (get_or xs i d)
-    ∙ ap (λ l. set l j (f (get_or xs i d))) (map-set f xs i (get_or xs j d))
-    ∙ (λ t. set (set (map f xs) i (sym (get_or-map f xs j d) t)) j (sym (get_or-map f xs i d) t))
+map-swap f xs i j = search (rules, map-set, get_or-map)
 
 -- the rows in another order, and their columns
 abbrev IsMapOfSome : {X C : Type 0} → (X → C) → List X → List C → Type 0
@@ -47,13 +38,11 @@ rows_of f xs cs p =
 
 -- what holds of each item, said in two ways
 to_all : {X : Type 0} (P : X → Type 0) (xs : List X) → EachOf P xs → AllByRecursion P xs
-to_all P [] h = tt
-to_all P (x ∷ xs) h = (h.0, to_all P xs h.1)
+to_all P xs h = search rules
 
 -- and back
 from_all : {X : Type 0} (P : X → Type 0) (xs : List X) → AllByRecursion P xs → EachOf P xs
-from_all P [] h = tt
-from_all P (x ∷ xs) h = (h.0, from_all P xs h.1)
+from_all P xs h = search rules
 
 -- what holds of each item holds in any order
 each_reordered : {X : Type 0} (P : X → Type 0) (xs ys : List X) → IsPermutation xs ys → EachOf P xs → EachOf P ys
@@ -119,9 +108,7 @@ same_book stored T U b c =
 -- the columns of a book's rows, in any order, tell the book
 pub book_told : (T : Tables) → IsBook T → AreStored (flat T) → (stored : StoredRows) → AreReorderedColumns stored (rows_columns (flat T)) →
     IsOnlyBookOf stored T
-book_told T is_book limits stored order =
-    let here = book_of T is_book limits stored order in
-    record { book = here; only = λ U there. same_book stored U T there here }
+book_told T is_book limits stored order = search (rules, book_of, same_book)
 
 -- and so the picture of a legal history
 pub picture_told : (F : History) → Legal F → (stored : StoredRows) → AreReorderedColumns stored (rows_columns (flat (picture F))) →

@@ -1,21 +1,14 @@
 -- What a call records puts rows in their limits alone.
-use Rattle.std.proofs.Common.{◌≡◌, ◌≤◌, ℕ, List, [], ◌∷◌, ◌++◌, map, filter, refl, subst, true, false, Bool, cond, not}
-use Rattle.std.specs.Prelude.{◌&&◌}
+use Rattle.std.proofs.Common.{◌≡◌, ◌≤◌, ℕ, List, [], ◌∷◌, ◌++◌, map, filter, subst, true, Bool, cond, not, arith, rules}
 use Rattle.std.proofs.lemmas.Bool.{and_parts}
-use Rattle.store_columns.specs.Limits.{IsNumber, IsStoredAccount, IsStoredMeta, IsStoredNonce}
-use Rattle.model_laws.proofs.Basics.{each, each_parts, each-append, each-map, each_after}
-use Rattle.model_laws.proofs.{Beginnings.legal_between, Dates.clock_in_time, Keeps.each-filter}
-use Rattle.model_laws.proofs.PutsDiffer.{each_change, each_sweep}
-use Rattle.model_laws.proofs.Step.{picture_more, step, sweep}
-use Rattle.desk_model.specs.Change.{account_differs, all_changes, authorization_differs, changes, moved_rows, order_differs}
-use Rattle.desk_model.specs.Change.{recorded_changes, spent_by, sweep_changes}
-use Rattle.desk_model.specs.Derived.{restated_authorization, restated_order}
-use Rattle.desk_model.specs.Effect.{authorizations_after, effect, effects, falls, is_overdue, lasts, not_spent, noted_account, noted_authorization, noted_order}
-use Rattle.desk_model.specs.Effect.{swept, touches_account, touches_authorization, touches_order}
-use Rattle.desk_model.specs.{Entry.History, Kept.EachOf, Legal.Legal, Limits.last_moment}
-use Rattle.desk_model.specs.History.{clock, record_all}
-use Rattle.desk_model.specs.Tables.{picture, Tables, tables_at}
-use Rattle.desk_model.specs.declared.{entry.Entry.Entry, rows.AuthorizationRow.AuthorizationRow, rows.OrderRow.OrderRow}
+use Rattle.std.specs.Prelude.{◌&&◌}
+use Rattle.store_columns.specs.Limits.{IsNumber, IsStoredMeta, IsStoredNonce}
+use Rattle.model_laws.proofs.{Basics.each, Basics.each_parts, Basics.each-append, Basics.each-map, Basics.each_after, Beginnings.legal_between}
+use Rattle.model_laws.proofs.{Dates.clock_in_time, Keeps.each-filter, PutsDiffer.each_change, PutsDiffer.each_sweep, Step.picture_more, Step.step, Step.sweep}
+use Rattle.desk_model.specs.Change.{all_changes, changes, moved_rows, recorded_changes, spent_by, sweep_changes}
+use Rattle.desk_model.specs.Effect.{effect, effects, falls, is_overdue, lasts, swept}
+use Rattle.desk_model.specs.{Entry.History, Kept.EachOf, Legal.Legal, Limits.last_moment, History.clock, History.record_all, Tables.picture, Tables.Tables}
+use Rattle.desk_model.specs.{Tables.tables_at, declared.entry.Entry.Entry, declared.rows.AuthorizationRow.AuthorizationRow, declared.rows.OrderRow.OrderRow}
 use Rattle.desk_model.specs.declared.status.AuthzStatus.TheVariants as authz
 use Rattle.desk_model.specs.declared.status.OrderStatus.TheVariants as order
 use Rattle.store_laws.proofs.Rows.{spent_in_limits, tables_in_limits}
@@ -27,13 +20,7 @@ use Rattle.store_laws.specs.InLimits.{AreInLimits, IsAuthorizationInLimits, IsOr
 put_among : {X : Type 0} (P : X → Type 0) (picked moves : X → Bool) (move : X → X) → ((x : X) → picked x ≡ true → moves x ≡ true) →
     (rows : List X) → EachOf P (map (λ r. cond (moves r) (move r) r) rows) → EachOf P (map move (filter picked rows))
 put_among P picked moves move says [] h = tt
-put_among P picked moves move says (x ∷ xs) h = by (picked x) refl (moves x) refl h.0 (put_among P picked moves move says xs h.1)
-  where
-    by : (b : Bool) → picked x ≡ b → (c : Bool) → moves x ≡ c → P (cond c (move x) x) → EachOf P (map move (filter picked xs)) →
-        EachOf P (map move (cond b (x ∷ filter picked xs) (filter picked xs)))
-    by true p true m k ih = (k, ih)
-    by true p false m k ih = let yes : moves x ≡ true = says x p in cc
-    by false p c m k ih = ih
+put_among P picked moves move says (x ∷ xs) h = grind (arith, (put_among P picked moves move says xs h.1))
 
 -- the moved rows that differ, and the new ones
 differing_among : {X : Type 0} (P : X → Type 0) (touched : X → Bool) (differs : X → X → Bool) (move : X → X) (rows fresh : List X) →
@@ -58,15 +45,7 @@ sweep_in_limits T m nonces after =
 
 -- the changes of an entry, where the rows after it are in their limits
 entry_in_limits : (T : Tables) (m : ℕ) (e : Entry) → EachOf IsNumber (spent_by e) → AreInLimits (effect m T e) → EachOf IsPutInLimits (changes m T e)
-entry_in_limits T m e spent_numbers after =
-    each_change IsPutInLimits T m e spent_numbers
-    (each_after IsStoredNonce (filter (not_spent e) T.nonces) _ after.nonces)
-    (differing_among IsStoredAccount (touches_account e) account_differs (noted_account e m) T.accounts _ after.accounts)
-    (differing_among IsAuthorizationInLimits (touches_authorization e) authorization_differs
-    (λ r. restated_authorization m (noted_authorization e m T.accounts r))
-    T.authorizations _ after.authorizations)
-    (differing_among IsOrderInLimits (touches_order e T.authorizations) order_differs
-    (λ r. restated_order m (authorizations_after T e m) (noted_order e m r)) T.orders _ after.orders)
+entry_in_limits T m e spent_numbers after = search (rules, each_change, each_after, differing_among)
 
 -- the changes of entries in a row
 entries_in_limits : (F : History) (m : ℕ) (es : List Entry) → Legal F → Legal (record_all m es F) → EachOf IsPutInLimits (all_changes m (tables_at F m) es)

@@ -1,35 +1,26 @@
 -- The rows of a legal history are in the limits of their columns.
-use Rattle.std.proofs.Common.{◌≡◌, ◌≤◌, ◌<◌, ℕ, ◌+◌, List, [], ◌∷◌, length, Option, Some, None, option_map, refl, sym, subst, true, false, Bool, cond, arith}
-use Rattle.std.specs.Prelude.{◌==◌, IfSome, IsSome, IsTrue, find}
-use Rattle.std.specs.List.{cons_option, flat_map}
-use Rattle.std.proofs.lemmas.List.Elements.{filter_map-append}
+use Rattle.std.proofs.Common.{◌≡◌, ◌≤◌, ◌<◌, ℕ, ◌+◌, List, [], ◌∷◌, length, Option, option_map, refl, true, arith, rules}
+use Rattle.std.proofs.{lemmas.List.Elements.filter_map-append, lemmas.Bool.and_parts}
+use Rattle.std.specs.{Prelude.◌==◌, Prelude.IfSome, Prelude.IsSome, Prelude.IsTrue, Prelude.find, List.flat_map}
 use Rattle.sha2.proofs.Facts256.{length-sha256}
-use Rattle.std.proofs.lemmas.Bool.{and_parts, eqb-true}
 use Rattle.store_columns.specs.Limits.{AreStored, IfRecorded, IsDatedProblem, IsMoment, IsNumber, IsStoredAccount}
 use Rattle.store_columns.specs.Limits.{IsStoredChallenge, IsStoredKey, IsStoredListed, IsStoredMeta, IsStoredNonce}
-use Rattle.store_columns.specs.declared.columns.Owned.{Owned}
-use Rattle.desk_model.specs.{Account.account_key, BaseName.is_base_name, Change.spent_by, Entry.History, Order.orders}
-use Rattle.desk_model.specs.declared.{objects.Answer.Answer, entry.Entry.Entry, entry.Entry.TheVariants.Spent as spent, rows.AuthorizationRow.AuthorizationRow}
-use Rattle.desk_model.specs.declared.{rows.ChallengeRow.ChallengeRow, rows.DatedProblem.DatedProblem, rows.Listed.Listed, rows.OrderRow.OrderRow}
-use Rattle.model_laws.proofs.Basics.{each, each-append, each-map, each_all, each_both, there}
-use Rattle.model_laws.proofs.Dates.{clock_in_time, no_date_later}
-use Rattle.model_laws.proofs.Forms.{HasTokens, nonces_drawn, problem_formed, tokens_drawn}
-use Rattle.model_laws.proofs.Keeps.{all_end, counters_fit, each-filter, row_keys_formed, row_names_formed, terms_in_limits}
-use Rattle.model_laws.proofs.{Numbers.nonces_numbered, Recorded.numbered_below}
-use Rattle.model_laws.proofs.RowLists.{ascends_above, numbered_ascends}
-use Rattle.model_laws.specs.DateLaws.{IsAuthorizationDatedBy, IsChallengeDatedBy, IsOrderDatedBy}
-use Rattle.model_laws.specs.Ordered.{Ascends, Below}
-use Rattle.desk_model.specs.Authorization.{answer, answer_by, answering, authorizations}
-use Rattle.desk_model.specs.History.{clock, earlier}
-use Rattle.desk_model.specs.Kept.{EachOf, Kept, restricted}
+use Rattle.store_columns.specs.Flat.{bare_row, challenge_rows, flat, key_rows, owned_by, without_challenges, without_listed}
 use Rattle.desk_model.specs.Legal.{has_length, is_problem, is_problem_kind, Legal, may_follow}
-use Rattle.desk_model.specs.Limits.{last_end, last_moment, last_number, longest_detail}
-use Rattle.desk_model.specs.Nonce.{is_open, nonce, nonces}
-use Rattle.desk_model.specs.Questions.{account_on, authorization_on}
-use Rattle.desk_model.specs.Tables.{authorization_row, challenge_row, order_row, picture, Tables, tables_at}
+use Rattle.desk_model.specs.{Account.account_key, BaseName.is_base_name, Change.spent_by, Entry.History, Order.orders, declared.objects.Answer.Answer}
+use Rattle.desk_model.specs.{declared.entry.Entry.Entry, declared.entry.Entry.TheVariants.Spent as spent, declared.rows.AuthorizationRow.AuthorizationRow}
+use Rattle.desk_model.specs.{declared.rows.ChallengeRow.ChallengeRow, declared.rows.DatedProblem.DatedProblem, declared.rows.Listed.Listed}
+use Rattle.desk_model.specs.{declared.rows.OrderRow.OrderRow, Authorization.answer, Authorization.answer_by, Authorization.answering}
+use Rattle.desk_model.specs.{Authorization.authorizations, History.clock, History.earlier, Kept.EachOf, Kept.Kept, Kept.restricted, Limits.last_end}
+use Rattle.desk_model.specs.{Limits.last_moment, Limits.last_number, Limits.longest_detail, Nonce.is_open, Nonce.nonce, Nonce.nonces, Questions.account_on}
+use Rattle.desk_model.specs.{Questions.authorization_on, Tables.order_row, Tables.picture, Tables.Tables, Tables.tables_at}
+use Rattle.model_laws.proofs.Basics.{each, each-append, each-map, each_all, each_both, there}
+use Rattle.model_laws.proofs.Keeps.{all_end, counters_fit, each-filter, row_keys_formed, row_names_formed, terms_in_limits}
+use Rattle.model_laws.proofs.{Dates.clock_in_time, Dates.no_date_later, Forms.nonces_drawn, Forms.problem_formed, Forms.tokens_drawn, Numbers.nonces_numbered}
+use Rattle.model_laws.proofs.{Recorded.numbered_below, RowLists.ascends_above, RowLists.numbered_ascends}
+use Rattle.model_laws.specs.{DateLaws.IsAuthorizationDatedBy, DateLaws.IsChallengeDatedBy, DateLaws.IsOrderDatedBy, Ordered.Ascends, Ordered.Below}
 use Rattle.store_laws.proofs.Books.{tables_book}
 use Rattle.store_laws.specs.InLimits.{AreInLimits, IsAuthorizationInLimits, IsOrderInLimits}
-use Rattle.store_columns.specs.Flat.{answer_key, bare_row, challenge_rows, flat, key_rows, owned_by, without_challenges, without_listed}
 use Rattle.store_book.specs.IsBook.{ListsFound}
 
 -- ---- numbers
@@ -37,32 +28,23 @@ use Rattle.store_book.specs.IsBook.{ListsFound}
 -- numbers that ascend from 1 and are not above a counter that fits
 numbers_in_limits : {X : Type 0} (number : X → ℕ) (last : ℕ) (xs : List X) → Ascends number 1 xs → Below number (last + 1) xs → last ≤ last_number →
     EachOf (λ x. IsNumber (number x)) xs
-numbers_in_limits number last xs up below fits =
-    each _ _ xs (λ x p. let low : 0 < number x = p.0 in let high : number x < last + 1 = p.1 in (omega arith, omega arith))
-    (each_both _ _ xs (ascends_above number 0 1 xs (omega arith) up) below)
+numbers_in_limits number last xs up below fits = grind (arith, each, each_both, (ascends_above number 0 1 xs (omega arith) up))
 
 -- the number of a row that is found
 pub found_in_limits : {X : Type 0} (number : X → ℕ) (n : ℕ) (xs : List X) → EachOf (λ x. IsNumber (number x)) xs →
     IsSome (find (λ x. number x == n) xs) → IsNumber n
 found_in_limits number n [] h is = cc
-found_in_limits number n (x ∷ xs) h is = by (number x == n) refl is (found_in_limits number n xs h.1)
-  where
-    by : (b : Bool) → (number x == n) ≡ b → IsSome (cond b (Some x) (find (λ y. number y == n) xs)) →
-        (IsSome (find (λ y. number y == n) xs) → IsNumber n) → IsNumber n
-    by true e k ih = rw (← eqb-true (number x) n e) h.0
-    by false e k ih = ih k
+found_in_limits number n (x ∷ xs) h is = grind (arith, (found_in_limits number n xs h.1))
 
 -- ---- dates
 
 -- what follows of a fact that is recorded
 if_recorded : {X : Type 0} (P Q : X → Type 0) → ((x : X) → P x → Q x) → (o : Option X) → IfSome o P → IfRecorded Q o
-if_recorded P Q f None h = tt
-if_recorded P Q f (Some x) h = f x h
+if_recorded P Q h o k = search rules
 
 -- two things that hold of a value
 if_both : {X : Type 0} (P Q : X → Type 0) (o : Option X) → IfSome o P → IfSome o Q → IfSome o (λ x. P x × Q x)
-if_both P Q None h k = tt
-if_both P Q (Some x) h k = (h, k)
+if_both P Q o h k = search rules
 
 -- a date that is not after the latest recorded moment
 moment_of : (F : History) → Legal F → (n : ℕ) → n ≤ clock F → IsMoment n
@@ -76,17 +58,7 @@ dated F h date o = if_recorded (λ x. date x ≤ clock F) (λ x. IsMoment (date 
 
 -- the row of a desk's own
 meta_stored : (F : History) → Legal F → (t : ℕ) → t ≤ last_moment → IsStoredMeta (tables_at F t).meta
-meta_stored F h t le =
-    let fit = counters_fit F h.numbered t in
-    record {
-      policy = terms_in_limits F h;
-      clock = le;
-      nonces = fit.nonces;
-      accounts = fit.accounts;
-      orders = fit.orders;
-      authorizations = fit.authorizations;
-      challenges = fit.challenges;
-    }
+meta_stored F h t le = search (rules, terms_in_limits)
 
 -- each nonce
 nonces_stored : (F : History) → Legal F → (t : ℕ) → EachOf IsStoredNonce (tables_at F t).nonces
@@ -143,17 +115,14 @@ authorization_numbers F h t =
 
 -- the date of an answer, in a column of its own
 date_recorded : (o : Option Answer) → IfRecorded (λ a. IsMoment a.date) o → IfRecorded IsMoment (option_map (λ a. a.date) o)
-date_recorded None h = tt
-date_recorded (Some a) h = h
+date_recorded o h = search rules
 
 -- the thumbprint of an answer has 32 bytes
 abbrev HasThumb : Option Answer → Type 0
 HasThumb o = IfSome o (λ a. length a.thumb ≡ 32)
 
 first_thumb : (key : List ℕ) (before : Option Answer) (now : Option ℕ) → HasThumb before → HasThumb (earlier before (answer_by key now))
-first_thumb key before None h = h
-first_thumb key None (Some date) h = length-sha256 key
-first_thumb key (Some a) (Some date) h = h
+first_thumb key before now h = search (rules, length-sha256)
 
 answer_thumbs : (account n : ℕ) (F : History) → HasThumb (answer account n F)
 answer_thumbs account n [] = tt
@@ -161,21 +130,13 @@ answer_thumbs account n (e ∷ F) = first_thumb (account_key account F) (answer 
 
 -- so it is row by row
 row_thumbs : (F : History) (t : ℕ) → EachOf (λ a. EachOf (λ c. HasThumb c.answered) a.challenges) (tables_at F t).authorizations
-row_thumbs F t =
-    each-map _ (authorization_row F t) (authorizations F)
-    (each_all _ (authorizations F) (λ a. each-map (λ c. HasThumb c.answered) (challenge_row F a.account) a.challenges
-    (each_all _ a.challenges (λ c. answer_thumbs a.account c.number F))))
+row_thumbs F t = search (rules, each-map, each_all, answer_thumbs)
 
 -- the keys of the answers of challenges whose numbers are in their limits
 keys_stored : (owner : ℕ) (cs : List ChallengeRow) → EachOf (λ c. IsNumber c.number) cs → EachOf (λ c. HasThumb c.answered) cs
     → EachOf IsStoredKey (key_rows (owned_by owner cs))
 keys_stored owner [] numbers thumbs = tt
-keys_stored owner (c ∷ cs) numbers thumbs = by c.answered thumbs.0 (keys_stored owner cs numbers.1 thumbs.1)
-  where
-    by : (o : Option Answer) → HasThumb o → EachOf IsStoredKey (key_rows (owned_by owner cs))
-        → EachOf IsStoredKey (cons_option (option_map (λ a. record { challenge = c.number; thumb = a.thumb }) o) (key_rows (owned_by owner cs)))
-    by None long rest = rest
-    by (Some a) long rest = (record { challenge = numbers.0; thumb = long }, rest)
+keys_stored owner (c ∷ cs) numbers thumbs = grind (arith, (keys_stored owner cs numbers.1 thumbs.1))
 
 -- challenges of an authorization whose number is in its limits
 challenges_stored : (F : History) → Legal F → (owner last : ℕ) → IsNumber owner → last ≤ last_number → (cs : List ChallengeRow) →
@@ -193,9 +154,7 @@ challenges_stored F h owner last is fits cs up below tokens dates =
 
 -- each token has 16 bytes, row by row
 row_tokens : (F : History) → Legal F → (t : ℕ) → EachOf (λ a. EachOf (λ c. length c.token ≡ 16) a.challenges) (tables_at F t).authorizations
-row_tokens F h t =
-    each-map _ (authorization_row F t) (authorizations F)
-    (each HasTokens _ (authorizations F) (λ a. each-map (λ c. length c.token ≡ 16) (challenge_row F a.account) a.challenges) (tokens_drawn F h.each))
+row_tokens F h t = search (rules, each-map, each, tokens_drawn)
 
 -- what is known of an authorization is enough for it and its challenges
 authorization_stored : (F : History) → Legal F → (t : ℕ) (row : AuthorizationRow) →
@@ -307,14 +266,7 @@ orders_stored F h t =
 
 -- each row of a legal history is in its limits, at each moment that a clock may show
 pub tables_in_limits : (F : History) → Legal F → (t : ℕ) → t ≤ last_moment → AreInLimits (tables_at F t)
-tables_in_limits F h t le =
-    record {
-      meta = meta_stored F h t le;
-      nonces = nonces_stored F h t;
-      accounts = accounts_stored F h t;
-      authorizations = authorizations_stored F h t;
-      orders = orders_stored F h t;
-    }
+tables_in_limits F h t le = search (rules, meta_stored, nonces_stored, accounts_stored, authorizations_stored, orders_stored)
 
 -- what holds of the lists of all rows
 each_flat : {X Y : Type 0} (P : Y → Type 0) (part : X → List Y) (xs : List X) → EachOf (λ x. EachOf P (part x)) xs → EachOf P (flat_map part xs)
@@ -325,9 +277,7 @@ each_flat P part (x ∷ xs) h = each-append P (part x) (flat_map part xs) h.0 (e
 keys_each : (rows : List AuthorizationRow) → EachOf (λ a. EachOf IsStoredKey (key_rows (owned_by a.number a.challenges))) rows
     → EachOf IsStoredKey (key_rows (challenge_rows rows))
 keys_each [] h = tt
-keys_each (a ∷ rows) h =
-    subst (EachOf IsStoredKey) (sym (filter_map-append (λ (c : Owned ChallengeRow). answer_key c.row) (owned_by a.number a.challenges) (challenge_rows rows)))
-    (each-append IsStoredKey (key_rows (owned_by a.number a.challenges)) (key_rows (challenge_rows rows)) h.0 (keys_each rows h.1))
+keys_each (a ∷ rows) h = grind (arith, filter_map-append, each-append, (keys_each rows h.1))
 
 -- rows in their limits are so table by table
 pub flat_stored : (T : Tables) → AreInLimits T → AreStored (flat T)
@@ -351,11 +301,4 @@ picture_stored F h = flat_stored (picture F) (tables_in_limits F h (clock F) (cl
 
 -- a part of rows in their limits
 pub parts_in_limits : (k : Kept) (T : Tables) → AreInLimits T → AreInLimits (restricted k T)
-parts_in_limits k T h =
-    record {
-      meta = h.meta;
-      nonces = each-filter _ (λ n. k.nonces n.serial) T.nonces h.nonces;
-      accounts = each-filter _ (λ a. k.accounts a.number) T.accounts h.accounts;
-      authorizations = each-filter _ (λ a. k.authorizations a.number) T.authorizations h.authorizations;
-      orders = each-filter _ (λ o. k.orders o.number) T.orders h.orders;
-    }
+parts_in_limits k T h = search (rules, each-filter)

@@ -1,15 +1,9 @@
 -- What the tables of a history are to a file that keeps them.
 use Rattle.std.specs.Prelude.{ℕ, ◌≤◌, List, ◌∷◌}
-use Rattle.store_columns.specs.{Columns.rows_columns, Limits.AreStored, TextColumns.ColumnsAreTexts, Flat.flat}
-use Rattle.store_columns.specs.declared.columns.StoredRows.{StoredRows}
-use Rattle.desk_model.specs.{Change.recorded_changes, Entry.History, Limits.last_moment}
-use Rattle.desk_model.specs.History.{clock, record_all}
-use Rattle.desk_model.specs.Kept.{EachOf, Kept, restricted}
-use Rattle.desk_model.specs.Legal.{EachFollows, Legal}
-use Rattle.desk_model.specs.Tables.{Tables, picture, tables_at}
-use Rattle.desk_model.specs.declared.entry.Entry.{Entry}
-use Rattle.store_laws.specs.InLimits.{AreInLimits, IsPutInLimits}
-use Rattle.store_laws.specs.Told.{AreReorderedColumns, IsOnlyBookOf}
+use Rattle.store_columns.specs.{Columns.rows_columns, Limits.AreStored, TextColumns.ColumnsAreTexts, Flat.flat, declared.columns.StoredRows.StoredRows}
+use Rattle.desk_model.specs.{Change.recorded_changes, Entry.History, Limits.last_moment, History.clock, History.record_all, Kept.EachOf, Kept.Kept}
+use Rattle.desk_model.specs.{Kept.restricted, Legal.EachFollows, Legal.Legal, Tables.Tables, Tables.picture, Tables.tables_at, declared.entry.Entry.Entry}
+use Rattle.store_laws.specs.{InLimits.AreInLimits, InLimits.IsPutInLimits, Told.AreReorderedColumns, Told.IsOnlyBookOf}
 use Rattle.store_book.specs.IsBook.{IsBook, IsStoredBook}
 
 -- the tables of a legal history are a book in the limits of its columns, which tell it

@@ -1,8 +1,6 @@
 -- What a step of a pass read, behind what it read before.
-use Rattle.std.proofs.Common.{◌≡◌, List, Result, Ok, Err, IfErr, IfOk, IsErrAnd}
-use Rattle.store_api.specs.Sight.{Reads, Sight, Unchanged}
-use Rattle.store_api.specs.declared.fault.StorageFault.{StorageFault}
-use Rattle.store_api.specs.Finding.{LacksMemory}
+use Rattle.std.proofs.Common.{◌≡◌, List, Result, Err, IfErr, IfOk, IsErrAnd, rules}
+use Rattle.store_api.specs.{Sight.Reads, Sight.Sight, Sight.Unchanged, declared.fault.StorageFault.StorageFault, Finding.LacksMemory}
 use Rattle.store_api.proofs.Readings.{reads_failing, reads_then}
 
 module _ {S C : Type 0} {v : Sight S C} where
@@ -16,6 +14,4 @@ module _ {S C : Type 0} {v : Sight S C} where
 pub not_refused : {A B X Y : Type 0} (items : A → List Y) (firsts : List X → List Y) (xs : List X) (found : Result A StorageFault) (r : Result B StorageFault)
     → IfOk found (λ rows. (all : List X) → items rows ≡ firsts all → IfErr r (λ why. ⊥)) → IfOk found (λ rows. items rows ≡ firsts xs)
     → IfOk found (λ rows. IfErr r LacksMemory)
-not_refused items firsts xs (Ok rows) (Ok b) orderly are = tt
-not_refused items firsts xs (Ok rows) (Err why) orderly are = absurd (orderly xs are)
-not_refused items firsts xs (Err e) r orderly are = tt
+not_refused items firsts xs found r h k = search rules

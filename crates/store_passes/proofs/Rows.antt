@@ -1,9 +1,7 @@
 -- The rows above a number, one after the other.
-use Rattle.std.proofs.Common.{◌≡◌, ◌<◌, ◌≤◌, ℕ, ◌+◌, List, [], ◌∷◌, ◌++◌, Bool, true, false, cond, refl, sym, ap, subst, ◌∙◌, arith, ltb}
-use Rattle.std.proofs.Common.{Option, None, Some, Result, IfOk}
-use Rattle.std.proofs.lemmas.Result.{IfOk-weaker}
+use Rattle.std.proofs.Common.{◌≡◌, ◌<◌, ◌≤◌, ℕ, ◌+◌, List, [], ◌∷◌, ◌++◌, true, cond, refl, sym, arith, ltb, Option, Result, IfOk, rules}
+use Rattle.std.proofs.lemmas.{Result.IfOk-weaker, Bool.lt-ltb}
 use Rattle.std.specs.List.{flat_map}
-use Rattle.std.proofs.lemmas.Bool.{ltb-true, lt-ltb, le-ltb, ltb-false}
 use Rattle.model_laws.specs.Ordered.{Ascends}
 use Rattle.model_lives.specs.Above.{above, first_of}
 use Rattle.store_passes.specs.{Left.IsRowAfter, Stepping.IsFirst}
@@ -20,12 +18,7 @@ all_above number n m (x ∷ xs) lt h =
 -- the first row above a number is above it
 first_is_above : {X : Type 0} (number : X → ℕ) (n : ℕ) (x : X) (xs : List X) → first_of (above number n xs) ≡ x ∷ [] → n < number x
 first_is_above number n x [] e = absurd (cc e)
-first_is_above number n x (y ∷ ys) e = by (ltb n (number y)) refl (first_is_above number n x ys) e
-  where
-    by : (b : Bool) → ltb n (number y) ≡ b → (first_of (above number n ys) ≡ x ∷ [] → n < number x)
-        → first_of (cond b (y ∷ above number n ys) (above number n ys)) ≡ x ∷ [] → n < number x
-    by true more later is = let same : y ≡ x = cc is in subst (λ z. n < number z) same (ltb-true n (number y) more)
-    by false less later is = later is
+first_is_above number n x (y ∷ ys) e = grind (arith, (first_is_above number n x ys))
 
 -- two rows are not one
 never_two : {X : Type 0} (y : X) (before : List X) (x : X) (zs : List X) → y ∷ (before ++ x ∷ []) ≡ first_of zs → ⊥
@@ -43,55 +36,26 @@ last_is_above number n (y ∷ before) x xs e = absurd (never_two y before x (abo
 pub above_step : {X : Type 0} (number : X → ℕ) (n m : ℕ) (x : X) (xs : List X) → Ascends number m xs → first_of (above number n xs) ≡ x ∷ [] →
     above number n xs ≡ x ∷ above number (number x) xs
 above_step number n m x [] h e = absurd (cc e)
-above_step number n m x (y ∷ ys) h e = by (ltb n (number y)) refl (above_step number n (number y + 1) x ys h.1) e
-  where
-    by : (b : Bool) → ltb n (number y) ≡ b → (first_of (above number n ys) ≡ x ∷ [] → above number n ys ≡ x ∷ above number (number x) ys)
-        → first_of (cond b (y ∷ above number n ys) (above number n ys)) ≡ x ∷ []
-        → cond b (y ∷ above number n ys) (above number n ys) ≡ x ∷ above number (number x) (y ∷ ys)
-    by true more later is =
-        let same : y ≡ x = cc is in
-        let lower : n < number y = ltb-true n (number y) more in
-        let here : ltb (number y) (number y) ≡ false = le-ltb (number y) (number y) (omega arith) in
-        let rest : above number n ys ≡ above number (number y) ys =
-        all_above number n (number y + 1) ys (omega arith) h.1 ∙ sym (all_above number (number y) (number y + 1) ys (omega arith) h.1) in
-        let skips : above number (number y) (y ∷ ys) ≡ above number (number y) ys =
-        λ i. cond (here i) (y ∷ above number (number y) ys) (above number (number y) ys) in
-        subst (λ z. y ∷ above number n ys ≡ z ∷ above number (number z) (y ∷ ys)) same (ap (λ l. y ∷ l) (rest ∙ sym skips))
-    by false less later is =
-        let upper : n < number x = first_is_above number n x ys is in
-        let lower : number y ≤ n = ltb-false n (number y) less in
-        let here : ltb (number x) (number y) ≡ false = le-ltb (number x) (number y) (omega arith) in
-        let skips : above number (number x) (y ∷ ys) ≡ above number (number x) ys =
-        λ i. cond (here i) (y ∷ above number (number x) ys) (above number (number x) ys) in
-        later is ∙ ap (λ l. x ∷ l) (sym skips)
+above_step number n m x (y ∷ ys) h e = grind (arith, all_above, first_is_above, (above_step number n (number y + 1) x ys h.1))
 
 -- what is found at the first of the rows above a number, and what is left above its number
 pub found_step : {X F : Type 0} (number : X → ℕ) (found_at : X → List F) (n m : ℕ) (x : X) (xs : List X) (found : List F) →
     Ascends number m xs → first_of (above number n xs) ≡ x ∷ [] → found ≡ found_at x →
     flat_map found_at (above number n xs) ≡ found ++ flat_map found_at (above number (number x) xs)
-found_step number found_at n m x xs found h e same =
-    ap (flat_map found_at) (above_step number n m x xs h e) ∙ ap (λ l. l ++ flat_map found_at (above number (number x) xs)) (sym same)
+found_step number found_at n m x xs found h e same = search (rules, above_step)
 
 -- where no row is first, nothing is found
 pub nothing_left : {X F : Type 0} (found_at : X → List F) (rows : List X) → first_of rows ≡ [] → flat_map found_at rows ≡ []
-nothing_left found_at [] e = refl
-nothing_left found_at (x ∷ xs) e = absurd (cc e)
-
--- where no row is first, there is none
-none_first : {X : Type 0} (rows : List X) → first_of rows ≡ [] → rows ≡ []
-none_first [] e = refl
-none_first (x ∷ xs) e = absurd (cc e)
+nothing_left found_at rows h = search rules
 
 -- the row that was given is the one after a number, where rows ascend
 is_after : {X : Type 0} (number : X → ℕ) (n : ℕ) (all : List X) (row : Option X) → Ascends number 1 all → IsFirst row (above number n all)
     → IsRowAfter number all n row
-is_after number n all (Some x) ascends is = above_step number n 1 x all ascends is
-is_after number n all None ascends is = none_first (above number n all) is
+is_after number n all row h k = search (rules, above_step)
 
 -- and so it is the first of those above it
 pub first_after : {X : Type 0} (number : X → ℕ) (n : ℕ) (all : List X) (row : Option X) → IsRowAfter number all n row → IsFirst row (above number n all)
-first_after number n all (Some x) is = ap first_of is
-first_after number n all None is = ap first_of is
+first_after number n all row h = search rules
 
 pub row_is_after : {X F : Type 0} (number : X → ℕ) (n : ℕ) (all found : List X) (r : Result (Option X) F) → Ascends number 1 all
     → IfOk r (λ row. (rows : List X) → found ≡ first_of rows → IsFirst row rows) → found ≡ first_of (above number n all)

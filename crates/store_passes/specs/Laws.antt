@@ -1,6 +1,5 @@
 -- What passes rest on, and what they give together.
-use Rattle.std.specs.Prelude.{◌≡◌, [], ◌∷◌}
-use Rattle.std.specs.List.{flat_map}
+use Rattle.std.specs.{Prelude.◌≡◌, Prelude.[], Prelude.◌∷◌, List.flat_map}
 use Rattle.desk_model.specs.{Derived.status_faults, Tables.Tables}
 use Rattle.store_book.specs.IsBook.{IsBook}
 use Rattle.store_passes.specs.{InOrder.IsInOrder, Left.faults_of}

@@ -1,7 +1,6 @@
-use Rattle.model_laws.proofs.Dates.{clock_in_time, no_date_later}
 use Rattle.model_laws.proofs.Keeps.{reported_once, row_keys_differ, counters_fit, numbers_fit_counters, terms_in_limits, all_end, row_keys_formed}
 use Rattle.model_laws.proofs.Keeps.{row_names_formed}
-use Rattle.model_laws.proofs.{Numbers.all_named, RowFacts.proved_by, TextFacts.hold_texts, FirstKeys.rows_under}
+use Rattle.model_laws.proofs.{Dates.clock_in_time, Dates.no_date_later, Numbers.all_named, RowFacts.proved_by, TextFacts.hold_texts, FirstKeys.rows_under}
 use Rattle.model_laws.proofs.legal_histories_keep.Goals as goal
 
 pub returns : goal.returns

@@ -1,6 +1,5 @@
-use Rattle.model_laws.proofs.Chain.{effect_part, effects_part, part_recorded}
 use Rattle.model_laws.proofs.Local.{swept_part, sweep_changes_local, changes_local, find_part, filter_part}
-use Rattle.model_laws.proofs.ReadRows.{may_local}
+use Rattle.model_laws.proofs.{Chain.effect_part, Chain.effects_part, Chain.part_recorded, ReadRows.may_local}
 use Rattle.model_laws.proofs.parts_are_enough.Goals as goal
 
 pub returns : goal.returns

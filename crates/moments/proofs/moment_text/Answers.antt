@@ -1,5 +1,4 @@
-use Rattle.std.proofs.Common.{sym, subst, ◌∙◌}
-use Rattle.std.proofs.lemmas.Result.{IfOk-weaker}
+use Rattle.std.proofs.{Common.sym, Common.subst, Common.◌∙◌, lemmas.Result.IfOk-weaker}
 use Rattle.desk_model.specs.Moment.{IsMomentText}
 use Rattle.moments.proofs.{Texts.moment_text-IsMomentText, Written.datetime_written}
 use Rattle.moments.proofs.moment_text.Goals as goal

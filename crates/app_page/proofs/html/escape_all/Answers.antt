@@ -1,6 +1,5 @@
 use Rattle.std.proofs.Common.{flat_map, sym, ap, ◌∙◌, map-id}
-use Rattle.std.proofs.lemmas.Iterator.{YieldsList-from_chars}
-use Rattle.std.proofs.lemmas.Iterator.Consumers.{YieldsList-end}
+use Rattle.std.proofs.{lemmas.Iterator.YieldsList-from_chars, lemmas.Iterator.Consumers.YieldsList-end}
 use Rattle.app_page.specs.Html.{escape}
 use Rattle.app_page.proofs.html.escape_all.Goals as goal
 

@@ -1,6 +1,5 @@
-use Rattle.std.proofs.Common.{◌++◌, subst}
+use Rattle.std.proofs.{Common.◌++◌, Common.subst, KnownBytes.Appends-trans}
 use Rattle.std.specs.Io.KnownBytes.{Appends}
-use Rattle.std.proofs.KnownBytes.{Appends-trans}
 use Rattle.desk_model.specs.Moment.{moment_text}
 use Rattle.moments.specs.Capped.{capped}
 use Rattle.app_page.specs.Html.{escaped}

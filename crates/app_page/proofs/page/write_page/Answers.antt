@@ -1,11 +1,9 @@
-use Rattle.std.proofs.Common.{◌++◌, OnOk, subst}
-use Rattle.std.proofs.KnownBytes.{Appends-trans}
+use Rattle.std.proofs.{Common.◌++◌, Common.OnOk, Common.subst, KnownBytes.Appends-trans}
 use Rattle.std.specs.Io.KnownBytes.{Appends}
 use Rattle.app_reports.specs.About.{statuses_said}
 use Rattle.app_page.specs.Page.{head_html, tables_html}
 use Rattle.app_page.specs.declared.texts.TheConstants as page
-use Rattle.app_reports.proofs.Printing.{on_ok}
-use Rattle.app_reports.proofs.Reporting.{report_failed, reports_then, unchanged_reported}
+use Rattle.app_reports.proofs.{Printing.on_ok, Reporting.report_failed, Reporting.reports_then, Reporting.unchanged_reported}
 use Rattle.store_api.proofs.Readings.{unchanged_both}
 use Rattle.app_page.proofs.page.write_page.Goals as goal
 

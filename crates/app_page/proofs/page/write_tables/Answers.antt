@@ -1,5 +1,4 @@
-use Rattle.std.proofs.Common.{◌++◌, subst}
-use Rattle.std.proofs.KnownBytes.{Appends-trans}
+use Rattle.std.proofs.{Common.◌++◌, Common.subst, KnownBytes.Appends-trans}
 use Rattle.std.specs.Io.KnownBytes.{Appends}
 use Rattle.app_page.specs.Page.{ending_html, last_html, soon_after, waiting_html}
 use Rattle.app_page.specs.declared.texts.TheConstants as page

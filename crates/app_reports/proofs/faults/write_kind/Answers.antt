@@ -1,8 +1,7 @@
 use Rattle.std.proofs.Common.{Err, rules, subst}
 use Rattle.std.specs.Io.KnownBytes.{Appends}
 use Rattle.store_passes.specs.Left.{IsNext, faults_above, faults_of}
-use Rattle.app_reports.proofs.Printing.{writes_one}
-use Rattle.app_reports.proofs.Reporting.{look_up_failed, reads_caused}
+use Rattle.app_reports.proofs.{Printing.writes_one, Reporting.look_up_failed, Reporting.reads_caused}
 use Rattle.app_reports.specs.Reported.{Reports}
 use Rattle.app_reports.proofs.faults.write_kind.Goals as goal
 

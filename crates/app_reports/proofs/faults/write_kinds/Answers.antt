@@ -4,10 +4,9 @@ use Rattle.std.specs.{Io.KnownBytes.Appends, List.flat_map}
 use Rattle.store_passes.proofs.Alls.{kinds_make_all}
 use Rattle.store_passes.specs.{Left.faults_of, declared.fault_kind.FaultKind.FaultKind}
 use Rattle.store_passes.specs.declared.fault_kind.FaultKind.TheVariants.{Account, Order, Authorization, Challenge}
-use Rattle.app_reports.proofs.Printing.{writes_all, writes_part}
 use Rattle.app_reports.proofs.Searching.{Searches, tells, turn_found, turn_passed}
+use Rattle.app_reports.proofs.{Printing.writes_all, Printing.writes_part, faults.write_kinds.Goals.then-branch, faults.write_kinds.Goals.else-branch}
 use Rattle.app_reports.specs.Printed.{lines_of}
-use Rattle.app_reports.proofs.faults.write_kinds.Goals.{then-branch, else-branch}
 use Rattle.app_reports.proofs.faults.write_kinds.Goals as goal
 
 -- all kinds

@@ -2,8 +2,7 @@ use Rattle.std.proofs.Common.{rules, ◌∙◌, ◌∷◌, ap, arith, subst, sym
 use Rattle.model_lives.specs.Above.{above}
 use Rattle.store_passes.proofs.{Alls.books_in_order, Rows.all_above}
 use Rattle.store_passes.specs.Left.{IsRowAfter}
-use Rattle.app_reports.proofs.Listing.{lists_none, lists_turn}
-use Rattle.app_reports.proofs.Reporting.{report_failed}
+use Rattle.app_reports.proofs.{Listing.lists_none, Listing.lists_turn, Reporting.report_failed}
 use Rattle.store_api.proofs.Readings.{unchanged_then}
 use Rattle.app_reports.proofs.lists.write_kept.Goals as goal
 

@@ -1,5 +1,4 @@
-use Rattle.std.proofs.Common.{◌++◌, ◌∙◌, OnOk, ap, subst}
-use Rattle.std.proofs.KnownBytes.{Appends-trans}
+use Rattle.std.proofs.{Common.◌++◌, Common.◌∙◌, Common.OnOk, Common.ap, Common.subst, KnownBytes.Appends-trans}
 use Rattle.std.specs.Io.KnownBytes.{Appends}
 use Rattle.app_reports.specs.About.{ahead, base_said, clock_said, lives_said}
 use Rattle.app_reports.proofs.Printing.{on_ok}

@@ -1,5 +1,4 @@
-use Rattle.std.proofs.KnownBytes.{Appends-trans}
-use Rattle.std.proofs.lemmas.Result.{on_ok_weaker}
+use Rattle.std.proofs.{KnownBytes.Appends-trans, lemmas.Result.on_ok_weaker}
 use Rattle.app_tasks.proofs.metrics.write_served.Goals as goal
 
 pub returns : goal.returns

@@ -1,5 +1,4 @@
-use Rattle.std.proofs.Common.{◌≡◌, ◌≢◌, Ok, true, codes, sym, ◌∙◌}
-use Rattle.std.proofs.lemmas.Slice.Eq.{bytes_eq-Decides}
+use Rattle.std.proofs.{Common.◌≡◌, Common.◌≢◌, Common.Ok, Common.true, Common.codes, Common.sym, Common.◌∙◌, lemmas.Slice.Eq.bytes_eq-Decides}
 use Rattle.app_words.proofs.Decimals.{decimal_begins, decimal_parses, parsed_is_decimal, zero_is_decimal}
 use Rattle.app_words.proofs.numbers.number_in.Goals as goal
 

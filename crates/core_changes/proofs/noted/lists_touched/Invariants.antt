@@ -1,6 +1,5 @@
 use Rattle.std.proofs.Common.{◌≡◌, drop}
-use Rattle.desk_model.specs.{Derived.numbers_of, Entry.entry_of}
-use Rattle.desk_model.specs.Effect.{lists_one, touches_authorization}
+use Rattle.desk_model.specs.{Derived.numbers_of, Entry.entry_of, Effect.lists_one, Effect.touches_authorization}
 use Rattle.core_changes.proofs.noted.lists_touched.Given as goal
 
 abbrev pub invariant-loop-place : goal.invariant-loop-place

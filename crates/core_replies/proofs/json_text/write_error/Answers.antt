@@ -1,8 +1,7 @@
 use Rattle.std.proofs.Common.{refl}
 use Rattle.std.specs.Prelude.{codes}
 use Rattle.desk_model.specs.Document.{error}
-use Rattle.core_replies.proofs.Results.{on_ok}
-use Rattle.core_replies.proofs.Writing.{named_value, object_value}
+use Rattle.core_replies.proofs.{Results.on_ok, Writing.named_value, Writing.object_value}
 use Rattle.core_replies.proofs.json_text.write_error.Goals as goal
 
 pub returns : goal.returns

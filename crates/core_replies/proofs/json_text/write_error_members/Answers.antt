@@ -1,6 +1,5 @@
 use Rattle.std.proofs.Common.{◌∙◌}
-use Rattle.core_replies.proofs.Results.{on_ok}
-use Rattle.core_replies.proofs.Writing.{member_is, members_then, number_is}
+use Rattle.core_replies.proofs.{Results.on_ok, Writing.member_is, Writing.members_then, Writing.number_is}
 use Rattle.core_replies.proofs.json_text.write_error_members.Goals as goal
 
 pub returns : goal.returns

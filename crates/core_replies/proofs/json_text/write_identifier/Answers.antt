@@ -1,6 +1,5 @@
 use Rattle.std.proofs.Common.{refl}
-use Rattle.core_replies.proofs.Results.{on_ok}
-use Rattle.core_replies.proofs.Writing.{members_then, object_value}
+use Rattle.core_replies.proofs.{Results.on_ok, Writing.members_then, Writing.object_value}
 use Rattle.core_replies.proofs.json_text.write_identifier.Goals as goal
 
 pub returns : goal.returns

@@ -1,6 +1,5 @@
 use Rattle.std.proofs.Common.{refl}
-use Rattle.core_replies.proofs.Results.{on_ok}
-use Rattle.core_replies.proofs.Writing.{list_member, object_value}
+use Rattle.core_replies.proofs.{Results.on_ok, Writing.list_member, Writing.object_value}
 use Rattle.core_replies.proofs.json_text.write_listing.Goals as goal
 
 pub returns : goal.returns

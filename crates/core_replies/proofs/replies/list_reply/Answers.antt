@@ -1,6 +1,5 @@
-use Rattle.std.proofs.Common.{◌∙◌, ap, sym}
-use Rattle.desk_model.specs.Plain.{is_document}
-use Rattle.desk_model.specs.Shown.{list_reply, ok}
+use Rattle.std.proofs.Common.{◌∙◌, ap, sym, rules}
+use Rattle.desk_model.specs.{Plain.is_document, Shown.list_reply, Shown.ok}
 use Rattle.core_replies.proofs.PlainDocuments.{challenge_work_plain, order_work_plain, orders_plain}
 use Rattle.core_replies.proofs.ShownLists.{challenges-are, orders-are, work-is}
 use Rattle.core_replies.proofs.replies.list_reply.Goals as goal
@@ -26,12 +25,7 @@ listing_document-requires-in-ChallengeWork c =
     ∙ challenge_work_plain c.args.at.now
 
 pub returns-in_ok-work-in-ChallengeWork : goal.returns-in_ok-work-in-ChallengeWork
-returns-in_ok-work-in-ChallengeWork c =
-    c.json_reply-in-ChallengeWork.ensures
-    ∙ ap (ok 200) (c.in_ok-work-in-ChallengeWork.ensures
-    ∙ challenges-are c.parts-moment.result.1 c.parts-moment.result.0.now c.args.at.now c.authorizations.result.now
-    c.authorizations.ensures c.parts-moment.ensures)
-    ∙ ap (list_reply c.args.at.now) (sym c.in-ChallengeWork.is)
+returns-in_ok-work-in-ChallengeWork c = search (rules, challenges-are)
 
 pub listing_document-requires-in-OrderWork : goal.listing_document-requires-in-OrderWork
 listing_document-requires-in-OrderWork c =

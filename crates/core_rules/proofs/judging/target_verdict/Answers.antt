@@ -2,8 +2,7 @@ use Rattle.std.proofs.Common.{drop, sym, ap, subst, ◌∙◌}
 use Rattle.desk_model.specs.declared.call.Target.TheVariants as to
 use Rattle.identifiers.specs.{AskedOrders.target_order, ReadOnce.target_key_change}
 use Rattle.core_rules.specs.Needs.{IsJudged}
-use Rattle.core_rules.proofs.AskedOrders.{order_judged}
-use Rattle.core_rules.proofs.Sparing.{asked-change, sent, target-made, target-spared}
+use Rattle.core_rules.proofs.{AskedOrders.order_judged, Sparing.asked-change, Sparing.sent, Sparing.target-made, Sparing.target-spared}
 use Rattle.core_rules.proofs.judging.target_verdict.Goals as goal
 
 pub returns-in-NewAccount : goal.returns-in-NewAccount

@@ -1,9 +1,7 @@
-use Rattle.std.proofs.Common.{ap, subst, ◌∙◌}
+use Rattle.std.proofs.{Common.ap, Common.subst, Common.◌∙◌, lemmas.Result.err_from_is_err_and}
 use Rattle.std.specs.Prelude.{sum_by}
-use Rattle.std.proofs.lemmas.Result.{err_from_is_err_and}
 use Rattle.desk_model.specs.declared.rows.Counters.{Counters}
-use Rattle.core_rules.specs.Making.{drawn_for, made_for, wanted_for}
-use Rattle.core_rules.specs.Needs.{IsNeedFault}
+use Rattle.core_rules.specs.{Making.drawn_for, Making.made_for, Making.wanted_for, Needs.IsNeedFault}
 use Rattle.core_rules.proofs.NamesWanted.{wanted-served}
 use Rattle.core_rules.proofs.OrderNeeds.{order_for, order_full, order_numbered, order_short, order_made}
 use Rattle.core_rules.proofs.new_orders.order_for.Goals as goal

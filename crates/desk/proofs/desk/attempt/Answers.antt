@@ -1,15 +1,13 @@
-use Rattle.std.proofs.Common.{None}
-use Rattle.store_api.proofs.Readings.{unchanged_here, unchanged_read}
-use Rattle.desk.proofs.Exiting.{storage_result_caused, storage_result_in_time}
+use Rattle.store_api.proofs.Readings.{unchanged_read}
+use Rattle.desk.proofs.Exiting.{storage_result_in_time}
 use Rattle.desk.proofs.desk.attempt.Goals as goal
+use Rattle.std.proofs.{Common.arith}
 
 pub returns-in_err-part-clause-in_time : goal.returns-in_err-part-clause-in_time
 returns-in_err-part-clause-in_time g c = storage_result_in_time c.in_err-part.field-0.0 _ c.from_residual.ensures.1
 
 pub returns-in_err-part-clause-caused : goal.returns-in_err-part-clause-caused
-returns-in_err-part-clause-caused g c =
-    storage_result_caused g.K.Kept.sight g.K.Storage.causes c.args.store.now c.args.store.now c.load_part.new.self None c.in_err-part.field-0.0 _
-    unchanged_here c.in_err-part.ensures.caused c.from_residual.ensures.1
+returns-in_err-part-clause-caused g c = grind arith
 
 pub returns-clause-caused : goal.returns-clause-caused
 returns-clause-caused g c =

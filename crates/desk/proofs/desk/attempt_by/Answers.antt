@@ -1,18 +1,13 @@
-use Rattle.std.proofs.Common.{◌≡◌, [], Some, sym, ap, ◌∙◌, length}
+use Rattle.std.proofs.Common.{◌≡◌, [], sym, ap, ◌∙◌, length, arith, rules}
 use Rattle.std.specs.Prelude.{nat_eq}
-use Rattle.desk.specs.Faults.{core_fault}
-use Rattle.desk.proofs.Exiting.{answered_alone, core_caused, core_result_in_time, nothing, refused, result_caused, saved, storage_result_caused, storage_result_in_time, unsaved}
+use Rattle.desk.proofs.Exiting.{answered_alone, core_result_in_time, nothing, saved, storage_result_in_time, unsaved}
 use Rattle.desk.proofs.desk.attempt_by.Goals as goal
 
 pub returns-in_err-decision-clause-caused : goal.returns-in_err-decision-clause-caused
-returns-in_err-decision-clause-caused g c was unchanged =
-    result_caused g.K.Kept.sight g.K.Storage.causes was c.args.store.now (core_fault c.in_err-decision.field-0.0) _
-    (core_caused g.K.Kept.sight g.K.Storage.causes was c.args.store.now c.in_err-decision.field-0.0) c.from_residual.ensures.1
+returns-in_err-decision-clause-caused g c was unchanged = grind arith
 
 pub returns-in_err-decision-clause-exit : goal.returns-in_err-decision-clause-exit
-returns-in_err-decision-clause-exit g c was loads =
-    refused g.K.Kept.sight c.args.call.now was c.args.store.now c.args.part.now c.in_err-decision.field-0.0 _
-    c.requires loads c.in_err-decision.ensures.faulty c.from_residual.ensures.1
+returns-in_err-decision-clause-exit g c was loads = search rules
 
 pub returns-then-is_empty-clause-exit : goal.returns-then-is_empty-clause-exit
 returns-then-is_empty-clause-exit g c was loads =
@@ -29,10 +24,7 @@ pub returns-in_err-save-clause-in_time : goal.returns-in_err-save-clause-in_time
 returns-in_err-save-clause-in_time g c = storage_result_in_time c.in_err-save.field-0.0 _ c.from_residual-in_err-save.ensures.1
 
 pub returns-in_err-save-clause-caused : goal.returns-in_err-save-clause-caused
-returns-in_err-save-clause-caused g c was unchanged =
-    storage_result_caused g.K.Kept.sight g.K.Storage.causes was c.args.store.now c.save.new.self
-    (Some (record { part = c.args.part.now; changes = c.in_ok-decision.decision.changes.items })) c.in_err-save.field-0.0 _ unchanged
-    c.in_err-save.ensures.caused c.from_residual-in_err-save.ensures.1
+returns-in_err-save-clause-caused g c was unchanged = grind arith
 
 pub returns-in_err-save-clause-exit : goal.returns-in_err-save-clause-exit
 returns-in_err-save-clause-exit g c was loads =

@@ -1,7 +1,7 @@
-use Rattle.std.proofs.Common.{[], ◌∷◌, ◌++◌, ap, sym, ◌∙◌}
+use Rattle.std.proofs.{Common.[], Common.◌∷◌, Common.◌++◌, Common.ap, Common.sym, Common.◌∙◌, Common.arith, lemmas.Bool.Decides.nat_tests}
 use Rattle.desk_model.specs.{Effect.falls, declared.rows.OrderRow.OrderRow, declared.rows.Change.TheVariants.PutOrder}
 use Rattle.desk_model.specs.declared.status.OrderStatus.TheVariants as order
-use Rattle.desk_book.proofs.Sweeping.{change_added, change_spared}
+use Rattle.desk_book.proofs.Sweeping.{change_added}
 use Rattle.desk_book.proofs.at_moment.push_fallen.Goals as goal
 
 -- the row of an order that has fallen
@@ -17,8 +17,4 @@ loop-row-preserved-in-Continue-branch-2 c =
     c.in-Some.ensures.steps c.loop-row.invariant
 
 pub loop-row-preserved : goal.loop-row-preserved
-loop-row-preserved c =
-    let row = c.in-Some.row.now in
-    change_spared (falls c.args.moment c.args.book.now.authorizations) fallen PutOrder row _ _ _ _
-    (ap (λ rows. falls c.args.moment rows row) (sym c.authorizations.ensures) ∙ sym c.if-falls.ensures)
-    c.in-Some.ensures.steps c.loop-row.invariant
+loop-row-preserved c = grind (arith, nat_tests)

@@ -1,8 +1,7 @@
 use Rattle.std.proofs.Common.{◌∙◌, ap, sym}
 use Rattle.std.specs.Prelude.{option_copied}
-use Rattle.desk_model.specs.Effect.{effect, swept}
-use Rattle.desk_model.specs.Shown.{located_account, shown}
-use Rattle.desk_model.specs.{Tables.Tables, declared.entry.Entry.TheVariants.Opened as opened, declared.rows.Meta.Meta}
+use Rattle.desk_model.specs.{Effect.effect, Effect.swept, Shown.located_account, Shown.shown, Tables.Tables, declared.entry.Entry.TheVariants.Opened as opened}
+use Rattle.desk_model.specs.{declared.rows.Meta.Meta}
 use Rattle.core_changes.proofs.Recordings.{last_account-pushed}
 use Rattle.desk_core.proofs.ActingRows.{opened_found}
 use Rattle.core_replies.proofs.Results.{ok_so}

@@ -1,13 +1,10 @@
 use Rattle.std.proofs.Common.{◌≡◌, ◌≤◌, ◌++◌, ◌∙◌, ap, append_assoc, subst, sym, map, Some}
 use Rattle.std.specs.Prelude.{option_copied, unwrap_or}
-use Rattle.desk_model.specs.{Limits.last_end, Document.listed_rows, Tables.Tables, Terms.Terms}
-use Rattle.desk_model.specs.Effect.{effect, swept}
-use Rattle.desk_model.specs.Shown.{located_order, shown}
-use Rattle.desk_model.specs.declared.{entry.Entry.TheVariants.Ordered as ordered, rows.Meta.Meta, rows.OrderRow.OrderRow}
-use Rattle.desk_model.specs.declared.rows.Change.TheVariants.{PutAuthorization}
+use Rattle.desk_model.specs.{Limits.last_end, Document.listed_rows, Tables.Tables, Terms.Terms, Effect.effect, Effect.swept, Shown.located_order, Shown.shown}
+use Rattle.desk_model.specs.{declared.entry.Entry.TheVariants.Ordered as ordered, declared.rows.Meta.Meta, declared.rows.OrderRow.OrderRow}
+use Rattle.desk_model.specs.{declared.rows.Change.TheVariants.PutAuthorization}
 use Rattle.core_changes.specs.Made.{next_order, next_rows}
-use Rattle.core_changes.proofs.MadeRows.{wanted_reusable}
-use Rattle.core_changes.proofs.Recordings.{clock_is, last_order-pushed}
+use Rattle.core_changes.proofs.{MadeRows.wanted_reusable, Recordings.clock_is, Recordings.last_order-pushed}
 use Rattle.desk_core.proofs.Acting.{clock_at, where_answered}
 use Rattle.desk_core.proofs.ActingRows.{may_be_wanted, ordered_found, ordered_names, ordered_text}
 use Rattle.core_replies.proofs.Results.{ok_so}

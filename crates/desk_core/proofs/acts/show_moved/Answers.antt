@@ -1,25 +1,21 @@
-use Rattle.std.proofs.Common.{◌≤◌, ◌∙◌, ap, sym}
+use Rattle.std.proofs.Common.{◌≤◌, ◌∙◌, ap, sym, rules}
 use Rattle.std.specs.Prelude.{option_copied}
 use Rattle.model_laws.proofs.Finds.{found_passes}
-use Rattle.desk_model.specs.Effect.{effect, has_row, names_order, swept, touches_account, touches_authorization}
+use Rattle.desk_model.specs.Effect.{effect, names_order, swept, touches_account, touches_authorization}
 use Rattle.desk_model.specs.{Entry.entry_of, Limits.last_end, Tables.Tables, declared.rows.Meta.Meta}
 use Rattle.desk_model.specs.Shown.{account_reply, authorization_reply, challenge_in, client_challenge_in, located_order, moved_reply, order_reply, shown}
 use Rattle.core_replies.specs.Shown.{HasMoments}
 use Rattle.core_changes.proofs.ShownAfter.{policy_moved}
 use Rattle.desk_core.proofs.MovedReplies.{account_there, authorization_there, named_after, order_there, owner_there}
-use Rattle.core_replies.proofs.Results.{ok_so}
 use Rattle.desk_core.proofs.ShownTexts.{authorization_moments, order_ends, owner_moments, shown_found}
+use Rattle.core_replies.proofs.Results.{ok_so}
 use Rattle.desk_core.proofs.acts.show_moved.Goals as goal
 
 pub show_client_challenge-requires : goal.show_client_challenge-requires
-show_client_challenge-requires c =
-    found_passes (has_row c.in-Answered.number) c.args.rows.now.authorizations.items c.unwrap-in-Answered.result.now
-    (sym c.owner.ensures ∙ ap option_copied c.unwrap-in-Answered.ensures)
+show_client_challenge-requires c = search (rules, found_passes)
 
 pub show_challenge-requires : goal.show_challenge-requires
-show_challenge-requires c =
-    found_passes (has_row c.in-Reported.number) c.args.rows.now.authorizations.items c.unwrap-in-Reported.result.now
-    (sym c.owner-in-Reported.ensures ∙ ap option_copied c.unwrap-in-Reported.ensures)
+show_challenge-requires c = search (rules, found_passes)
 
 pub returns-in-ContactsChanged : goal.returns-in-ContactsChanged
 returns-in-ContactsChanged c =

@@ -1,8 +1,7 @@
 use Rattle.std.proofs.Common.{◌≤◌, ◌∙◌, ap, sym}
 use Rattle.std.specs.Prelude.{◌==◌}
 use Rattle.model_laws.proofs.Finds.{each_found}
-use Rattle.desk_model.specs.Limits.{last_end}
-use Rattle.desk_model.specs.Shown.{order_reply, shown}
+use Rattle.desk_model.specs.{Limits.last_end, Shown.order_reply, Shown.shown}
 use Rattle.desk_core.proofs.MovedReplies.{named_at}
 use Rattle.core_replies.proofs.Results.{ok_so}
 use Rattle.desk_core.proofs.acts.show_order_at.Goals as goal

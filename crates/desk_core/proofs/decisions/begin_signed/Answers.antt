@@ -1,5 +1,5 @@
-use Rattle.std.proofs.Common.{◌+◌, ◌∷◌, [], ap, ◌∙◌}
-use Rattle.desk_model.specs.declared.{entry.Entry.TheVariants.Spent as spent, rows.Counters.Counters}
+use Rattle.std.proofs.Common.{◌∷◌, [], rules}
+use Rattle.desk_model.specs.declared.{entry.Entry.TheVariants.Spent as spent}
 use Rattle.desk_core.proofs.decisions.begin_signed.Goals as goal
 
 pub returns-clause-recorded : goal.returns-clause-recorded
@@ -8,6 +8,4 @@ returns-clause-recorded c =
     (c.in_ok-spend.ensures.recorded c.args.moment c.args.book.now [] c.in_ok-recording.ensures.recorded)
 
 pub returns-clause-counters : goal.returns-clause-counters
-returns-clause-counters c =
-    c.in_ok-issue.ensures.counters
-    ∙ ap (λ (x : Counters). record x { nonces = x.nonces + 1 }) (c.in_ok-spend.ensures.counters ∙ c.in_ok-recording.ensures.counters)
+returns-clause-counters c = search rules

@@ -1,10 +1,8 @@
-use Rattle.std.proofs.Common.{◌≡◌, ◌≤◌, ◌∙◌, ap, max, subst, sym}
-use Rattle.desk_model.specs.Limits.{last_moment}
-use Rattle.desk_model.specs.declared.{call.Call.Call, rows.Meta.Meta}
+use Rattle.std.proofs.Common.{◌≡◌, ◌≤◌, ◌∙◌, ap, max, subst, sym, rules}
+use Rattle.desk_model.specs.{Limits.last_moment, declared.call.Call.Call}
 use Rattle.desk_core.proofs.DecidingAsks.{code_decides, ok_part, err_part}
-use Rattle.desk_core.proofs.decisions.decide.Goals.{After-decide_at}
+use Rattle.desk_core.proofs.{decisions.decide.Goals.After-decide_at, DecidingFaults.code_fails}
 use Rattle.desk_core.specs.Outcomes.{MeetsAsk, IsAskFault}
-use Rattle.desk_core.proofs.DecidingFaults.{code_fails}
 use Rattle.identifiers.specs.Parsed.{ask_of}
 use Rattle.desk_core.proofs.decisions.decide.Goals as goal
 
@@ -13,10 +11,7 @@ decide_at-requires c = c.moment_of-moment.ensures.in_time (subst (λ (k : Call).
 
 -- the moment of the decision
 acts : (c : After-decide_at) → c.moment_of-moment.result ≡ max c.args.call.now.at c.args.book.now.meta.counters.clock
-acts c =
-    c.moment_of-moment.ensures.later
-    ∙ ap (λ (k : Call). max k.at c.meta.result.now.counters.clock) c.call-whole.ensures.call
-    ∙ ap (λ (x : Meta). max c.args.call.now.at x.counters.clock) c.meta.ensures
+acts c = search rules
 
 pub returns-clause-decided : goal.returns-clause-decided
 returns-clause-decided c =

@@ -1,12 +1,10 @@
 use Rattle.std.proofs.Common.{◌≡◌, ◌∙◌, arith, subst, sym}
-use Rattle.sqlite.specs.Files.{IsEmpty, file_state}
-use Rattle.sqlite.specs.{State.HasCleanDisk, Tree.Trees, WalFiles.image_at}
+use Rattle.sqlite.specs.{Files.IsEmpty, Files.file_state, State.HasCleanDisk, Tree.Trees, WalFiles.image_at}
 use Rattle.desk_store.proofs.NewDesks.{bare_is_none}
 use Rattle.desk_store.specs.Making.{has_objects}
 use Rattle.desk_files.specs.LeftFiles.{files_have}
-use Rattle.desk_files.proofs.Finding.{in_todays, keeps_within}
 use Rattle.desk_files.proofs.Opened.{by_cases, files_found, new_desk_left, nothing_found, opening_left, taken_left}
-use Rattle.desk_files.proofs.Refused.{if_there}
+use Rattle.desk_files.proofs.{Finding.in_todays, Finding.keeps_within, Refused.if_there}
 use Rattle.desk_files.proofs.opening.begin_from.Goals as goal
 
 pub returns-in-Ok-begin-clause-opened : goal.returns-in-Ok-begin-clause-opened

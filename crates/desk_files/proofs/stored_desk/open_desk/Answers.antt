@@ -1,5 +1,4 @@
-use Rattle.std.proofs.Common.{inl, inr}
-use Rattle.std.proofs.lemmas.Result.{IfErr-weaker, IfOk-weaker, MatchResult-weaker}
+use Rattle.std.proofs.{Common.inl, Common.inr, lemmas.Result.IfErr-weaker, lemmas.Result.IfOk-weaker, lemmas.Result.MatchResult-weaker}
 use Rattle.sql_schema.proofs.StaysLemmas.{asks_then}
 use Rattle.desk_store.specs.Opening.{IsUpgraded}
 use Rattle.sqlite.specs.Held.{state}

@@ -1,7 +1,6 @@
 use Rattle.std.proofs.Common.{◌≡◌, ◌≤◌, false, inl, inr, refl, subst, sym, le_refl}
 use Rattle.sqlite.specs.{Held.state, View.doubt}
-use Rattle.desk_store.specs.Making.{has_objects}
-use Rattle.desk_store.specs.declared.open_fault.OpenFault.TheVariants.{NotADesk}
+use Rattle.desk_store.specs.{Making.has_objects, declared.open_fault.OpenFault.TheVariants.NotADesk}
 use Rattle.desk_files.proofs.Opened.{by_cases}
 use Rattle.desk_files.proofs.tables.make_tables.Goals as goal
 

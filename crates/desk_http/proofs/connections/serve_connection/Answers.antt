@@ -1,8 +1,6 @@
 use Rattle.std.proofs.Common.{refl, subst}
-use Rattle.desk_http.proofs.Ending.{client_ends, ends_next}
-use Rattle.desk_http.proofs.Turns.{serves_next}
-use Rattle.desk_http.specs.{InTurn.fault_after, Showing.shower}
-use Rattle.desk_http.specs.Logged.{IsLogEntryOf, as_log_entry}
+use Rattle.desk_http.proofs.{Ending.client_ends, Ending.ends_next, Turns.serves_next}
+use Rattle.desk_http.specs.{InTurn.fault_after, Showing.shower, Logged.IsLogEntryOf, Logged.as_log_entry}
 use Rattle.desk_http.proofs.connections.serve_connection.Goals as goal
 
 pub returns-clause-served : goal.returns-clause-served

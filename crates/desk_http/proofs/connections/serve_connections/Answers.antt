@@ -1,6 +1,5 @@
 use Rattle.std.proofs.Common.{◌∙◌, refl}
-use Rattle.desk_http.proofs.Seeing.{seen_last, seen_many}
-use Rattle.desk_http.proofs.Turns.{fewer_served, serves_last, serves_more}
+use Rattle.desk_http.proofs.{Seeing.seen_last, Seeing.seen_many, Turns.fewer_served, Turns.serves_last, Turns.serves_more}
 use Rattle.desk_http.proofs.connections.serve_connections.Goals as goal
 
 pub loop-served-preserved : goal.loop-served-preserved

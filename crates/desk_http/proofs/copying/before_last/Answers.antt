@@ -1,5 +1,4 @@
-use Rattle.std.proofs.Common.{◌≡◌, ◌∙◌, true, refl}
-use Rattle.std.proofs.lemmas.Slice.Eq.{bytes_eq-Decides}
+use Rattle.std.proofs.{Common.◌≡◌, Common.◌∙◌, Common.true, Common.refl, lemmas.Slice.Eq.bytes_eq-Decides}
 use Rattle.desk_http.proofs.Pieces.{no_last}
 use Rattle.desk_http.proofs.copying.before_last.Goals as goal
 

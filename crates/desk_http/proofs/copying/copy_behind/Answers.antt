@@ -1,5 +1,4 @@
-use Rattle.std.proofs.Common.{◌≡◌, ◌∙◌, arith, length, sym}
-use Rattle.std.proofs.lemmas.List.{take_all}
+use Rattle.std.proofs.{Common.◌≡◌, Common.◌∙◌, Common.arith, Common.length, Common.sym, lemmas.List.take_all}
 use Rattle.desk_http.proofs.Pieces.{all_long}
 use Rattle.desk_http.proofs.copying.copy_behind.Goals as goal
 

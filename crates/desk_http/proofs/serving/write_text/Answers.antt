@@ -1,7 +1,6 @@
 use Rattle.std.proofs.KnownBytes.{Appends-kept}
 use Rattle.std.specs.Prelude.{take}
-use Rattle.desk_http.proofs.Sending.{piece_more, piece_within}
-use Rattle.desk_http.proofs.serving.write_text.Goals.{in-Ok, in-Err+else-ne}
+use Rattle.desk_http.proofs.{Sending.piece_more, Sending.piece_within, serving.write_text.Goals.in-Ok, serving.write_text.Goals.in-Err+else-ne}
 use Rattle.desk_http.proofs.serving.write_text.Goals as goal
 
 pub loop-preserved : goal.loop-preserved

@@ -1,6 +1,5 @@
 use Rattle.std.proofs.Common.{◌≤◌}
-use Rattle.std.specs.Prelude.{length, take}
-use Rattle.std.specs.Io.KnownBytes.{Appends}
+use Rattle.std.specs.{Prelude.length, Prelude.take, Io.KnownBytes.Appends}
 use Rattle.desk_http.proofs.serving.write_text.Given as goal
 
 abbrev pub invariant-loop : goal.invariant-loop

@@ -1,5 +1,4 @@
-use Rattle.std.proofs.Common.{◌≡◌, ◌++◌, subst, sym, ap, ◌∙◌}
-use Rattle.std.proofs.lemmas.List.{append_cancel_left}
+use Rattle.std.proofs.{Common.◌≡◌, Common.◌++◌, Common.subst, Common.sym, Common.ap, Common.◌∙◌, lemmas.List.append_cancel_left}
 use Rattle.desk_model.specs.KeyTexts.{IsLastNumber}
 use Rattle.desk_model.proofs.jwk.has_one_number.Goals as goal
 

@@ -1,14 +1,10 @@
 use Rattle.std.proofs.Common.{◌≡◌, ◌∙◌, ap, subst, arith}
 use Rattle.sqlite.specs.{Held.state, State.HasCleanDisk}
 use Rattle.sqlite.proofs.StateLemmas.{survives_then, survives_weaker}
-use Rattle.desk_model.specs.declared.rows.Meta.{Meta}
-use Rattle.sql_write.specs.Committing.{HasCommitted, IsLeft}
-use Rattle.sql_write.specs.{Making.MakesDesk, Refusals.IsCause, Statements.make_statements, Fits.FitsMeta}
-use Rattle.desk_model.specs.Tables.{Tables}
+use Rattle.desk_model.specs.{declared.rows.Meta.Meta, Tables.Tables}
+use Rattle.sql_write.specs.{Committing.HasCommitted, Committing.IsLeft, Making.MakesDesk, Refusals.IsCause, Statements.make_statements, Fits.FitsMeta}
 use Rattle.desk_store.specs.Making.{new_meta}
-use Rattle.desk_store.proofs.NewDesks.{desk_left, desk_made}
-use Rattle.desk_store.proofs.NothingWritten.{back_then, same_fault}
-use Rattle.desk_store.proofs.Failing.{failed_to_save}
+use Rattle.desk_store.proofs.{NewDesks.desk_left, NewDesks.desk_made, NothingWritten.back_then, NothingWritten.same_fault, Failing.failed_to_save}
 use Rattle.desk_store.proofs.making.make_desk.Goals as goal
 
 pub returns-in-Ok-clause-made : goal.returns-in-Ok-clause-made

@@ -1,8 +1,7 @@
 use Rattle.std.proofs.Common.{inl, inr, refl, sym, ◌∙◌}
 use Rattle.sql_read.specs.AllTables.{FailsAtTable}
 use Rattle.sqlite.specs.Held.{state}
-use Rattle.desk_store.proofs.{Books.may_read, OpeningFaults.refused_reading}
-use Rattle.desk_store.proofs.RowReadings.{reading_failed, reading_made}
+use Rattle.desk_store.proofs.{Books.may_read, OpeningFaults.refused_reading, RowReadings.reading_failed, RowReadings.reading_made}
 use Rattle.desk_store.proofs.opening.check_rows.Goals as goal
 
 pub returns-in-Ok-true : goal.returns-in-Ok-true

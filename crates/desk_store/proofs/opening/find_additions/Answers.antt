@@ -2,8 +2,7 @@ use Rattle.std.proofs.Common.{inl, inr, refl, subst, sym}
 use Rattle.std.specs.Prelude.{IsSome}
 use Rattle.sqlite.specs.Held.{state}
 use Rattle.sql_read.specs.AllTables.{FailsAtFirst}
-use Rattle.desk_store.proofs.{FirstBooks.first_may_read, OpeningFaults.refused_reading}
-use Rattle.desk_store.proofs.RowReadings.{reading_failed, reading_made}
+use Rattle.desk_store.proofs.{FirstBooks.first_may_read, OpeningFaults.refused_reading, RowReadings.reading_failed, RowReadings.reading_made}
 use Rattle.desk_store.proofs.opening.find_additions.Goals as goal
 
 pub returns-in-Ok-Some-clause-added : goal.returns-in-Ok-Some-clause-added

@@ -1,9 +1,8 @@
 use Rattle.std.proofs.Common.{arith, inl, inr}
 use Rattle.sqlite.specs.{Held.state, State.HasCleanDisk}
 use Rattle.sql_schema.proofs.StaysLemmas.{asks_then}
-use Rattle.desk_store.proofs.{Books.always_ok, Openings.opens_behind}
 use Rattle.desk_store.proofs.EitherFormat.{back_asked, left_asked, no_desk_still, refused_so}
-use Rattle.desk_store.proofs.Failing.{leaves_nothing, opened_nothing}
+use Rattle.desk_store.proofs.{Books.always_ok, Openings.opens_behind, Failing.leaves_nothing, Failing.opened_nothing}
 use Rattle.desk_store.proofs.opening.open_desk.Goals as goal
 
 pub returns-in-Ok : goal.returns-in-Ok

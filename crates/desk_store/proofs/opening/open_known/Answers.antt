@@ -3,10 +3,9 @@ use Rattle.sqlite.proofs.StateLemmas.{survives_weaker}
 use Rattle.sqlite.specs.Held.{state}
 use Rattle.sql_schema.proofs.StaysLemmas.{asks_nothing}
 use Rattle.sql_schema.specs.Names.{has_all_indexes, uses_key_table}
-use Rattle.desk_store.proofs.Books.{always_ok}
-use Rattle.desk_store.proofs.EitherFormat.{always_err, any_fault, back_asked, desk_indexes, first_indexes, lacks_keys}
-use Rattle.desk_store.proofs.EitherFormat.{left_asked, not_both, of_answer, uses_keys, whole_by, whole_first_by}
-use Rattle.desk_store.proofs.Failing.{asked_to_open, leaves_nothing}
+use Rattle.desk_store.proofs.EitherFormat.{always_err, any_fault, back_asked, desk_indexes, first_indexes, lacks_keys, left_asked, not_both, of_answer}
+use Rattle.desk_store.proofs.EitherFormat.{uses_keys, whole_by, whole_first_by}
+use Rattle.desk_store.proofs.{Books.always_ok, Failing.asked_to_open, Failing.leaves_nothing}
 use Rattle.desk_store.proofs.opening.open_known.Goals as goal
 
 -- ---- an index is missing

@@ -1,10 +1,8 @@
 use Rattle.std.proofs.Common.{ap, arith, inr}
 use Rattle.sqlite.proofs.StateLemmas.{survives_then}
 use Rattle.sqlite.specs.{Held.state, State.HasCleanDisk}
-use Rattle.desk_store.proofs.OpeningFaults.{same_storage}
-use Rattle.desk_store.proofs.NothingWritten.{failed, same_fault}
-use Rattle.desk_store.proofs.Upgrading.{first_unchanged, upgrade_left}
-use Rattle.desk_store.proofs.Failing.{leaves_nothing, opened_nothing}
+use Rattle.desk_store.proofs.{OpeningFaults.same_storage, NothingWritten.failed, NothingWritten.same_fault, Upgrading.first_unchanged, Upgrading.upgrade_left}
+use Rattle.desk_store.proofs.{Failing.leaves_nothing, Failing.opened_nothing}
 use Rattle.desk_store.proofs.opening.upgrade_desk.Goals as goal
 
 pub upgrade_with-requires : goal.upgrade_with-requires

@@ -1,8 +1,7 @@
 use Rattle.std.proofs.Common.{arith}
 use Rattle.sqlite.proofs.StateLemmas.{survives_then}
 use Rattle.sqlite.specs.{Held.state, State.HasCleanDisk}
-use Rattle.desk_store.proofs.NothingWritten.{back_then, same_fault}
-use Rattle.desk_store.proofs.Failing.{failed_to_save}
+use Rattle.desk_store.proofs.{NothingWritten.back_then, NothingWritten.same_fault, Failing.failed_to_save}
 use Rattle.desk_store.proofs.opening.upgrade_with.Goals as goal
 
 pub returns-in-Err-clause-back : goal.returns-in-Err-clause-back

@@ -1,5 +1,4 @@
-use Rattle.std.proofs.Common.{◌≡◌, Some, None, sym}
-use Rattle.std.proofs.lemmas.Result.{IfOk-weaker}
+use Rattle.std.proofs.{Common.◌≡◌, Common.Some, Common.None, Common.sym, lemmas.Result.IfOk-weaker}
 use Rattle.serde_json.specs.{Read.read, View.view}
 use Rattle.http_routes.proofs.Spelled.{asked_by_value, unread}
 use Rattle.http_routes.proofs.request.odd_ask.Goals as goal

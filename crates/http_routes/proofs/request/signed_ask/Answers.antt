@@ -1,5 +1,4 @@
-use Rattle.std.proofs.Common.{◌≡◌, Some, inl, subst}
-use Rattle.std.proofs.lemmas.Result.{IfOk-weaker}
+use Rattle.std.proofs.{Common.◌≡◌, Common.Some, Common.inl, Common.subst, lemmas.Result.IfOk-weaker}
 use Rattle.json.specs.Value.{value_view}
 use Rattle.serde_json.specs.Read.{read}
 use Rattle.json_texts.specs.Objects.{plain_value}

@@ -1,5 +1,4 @@
-use Rattle.http_routes.specs.Request.{not_here, not_served}
-use Rattle.http_routes.specs.{Routes.IsResourceAt, declared.routes.Resource.Resource}
+use Rattle.http_routes.specs.{Request.not_here, Request.not_served, Routes.IsResourceAt, declared.routes.Resource.Resource}
 use Rattle.http_routes.proofs.request.unserved_at.Goals as goal
 
 pub returns-in-Some : goal.returns-in-Some

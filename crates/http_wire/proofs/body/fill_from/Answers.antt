@@ -1,5 +1,4 @@
-use Rattle.std.proofs.Common.{◌-◌, arith, take, length, rules}
-use Rattle.std.proofs.lemmas.List.{length-take}
+use Rattle.std.proofs.{Common.◌-◌, Common.arith, Common.take, Common.length, Common.rules, lemmas.List.length-take}
 use Rattle.http_wire.specs.Head.{TakesAtMost}
 use Rattle.http_wire.proofs.Bytes.{adds_more, adds_none, takes_added, where_failed}
 use Rattle.http_wire.proofs.body.fill_from.Goals as goal

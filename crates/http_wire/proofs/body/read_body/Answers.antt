@@ -1,5 +1,4 @@
-use Rattle.std.proofs.Common.{arith, rules}
-use Rattle.std.proofs.KnownBytes.{Keeps-refl}
+use Rattle.std.proofs.{Common.arith, Common.rules, KnownBytes.Keeps-refl}
 use Rattle.http_wire.proofs.Bodies.{begun_whole, read_short, read_whole, written_whole}
 use Rattle.http_wire.proofs.Bytes.{takes_added, takes_none, takes_within}
 use Rattle.http_wire.proofs.body.read_body.Goals as goal

@@ -1,7 +1,5 @@
-use Rattle.std.proofs.Common.{◌≤◌, ◌+◌, arith, length, take}
-use Rattle.std.proofs.lemmas.List.{length-take}
-use Rattle.http_wire.proofs.Parsing.{malformed_parsed, too_large_parsed, complete_read}
-use Rattle.http_wire.proofs.Bytes.{takes_then, takes_within}
+use Rattle.std.proofs.{Common.◌≤◌, Common.◌+◌, Common.arith, Common.length, Common.take, lemmas.List.length-take}
+use Rattle.http_wire.proofs.{Parsing.malformed_parsed, Parsing.too_large_parsed, Parsing.complete_read, Bytes.takes_then, Bytes.takes_within}
 use Rattle.http_wire.proofs.call.read_call_by.Goals as goal
 use Rattle.desk_model.specs.Limits.{longest_body, longest_head}
 

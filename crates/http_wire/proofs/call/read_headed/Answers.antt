@@ -1,8 +1,7 @@
 use Rattle.std.proofs.Common.{◌∙◌, ap, arith, subst, sym, length, map}
 use Rattle.std.specs.Prelude.{All, IsUtf8}
 use Rattle.httparse.specs.Spans.{IsHeaderWithin, header_bytes}
-use Rattle.http_wire.proofs.{Asked.read_same, Bytes.takes_none}
-use Rattle.http_wire.proofs.Fields.{headers_within, token_is_text}
+use Rattle.http_wire.proofs.{Asked.read_same, Bytes.takes_none, Fields.headers_within, Fields.token_is_text}
 use Rattle.http_wire.proofs.call.read_headed.Goals as goal
 use Rattle.desk_model.specs.Limits.{longest_body}
 

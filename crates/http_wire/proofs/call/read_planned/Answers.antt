@@ -1,9 +1,7 @@
 use Rattle.http_wire.specs.{ParsedRequest.IsPlan, Spelled.IsRequestWith}
 use Rattle.http_routes.specs.declared.request.Request.TheVariants as request
 use Rattle.http_wire.specs.declared.call.Plan.TheVariants as plan
-use Rattle.http_wire.proofs.Asked.{request_behind, whatever_is_left}
-use Rattle.http_wire.proofs.Bytes.{takes_none, takes_within}
-use Rattle.http_wire.proofs.Limits.{body_within}
+use Rattle.http_wire.proofs.{Asked.request_behind, Asked.whatever_is_left, Bytes.takes_none, Bytes.takes_within, Limits.body_within}
 use Rattle.http_wire.proofs.call.read_planned.Goals as goal
 use Rattle.desk_model.specs.Limits.{longest_body}
 

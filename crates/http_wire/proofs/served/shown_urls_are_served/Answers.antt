@@ -1,5 +1,4 @@
-use Rattle.http_wire.proofs.AtPaths.{are_served}
-use Rattle.http_wire.proofs.Members.{have_urls, name_urls}
+use Rattle.http_wire.proofs.{AtPaths.are_served, Members.have_urls, Members.name_urls}
 use Rattle.http_wire.proofs.served.shown_urls_are_served.Goals as goal
 
 pub returns-clause-served : goal.returns-clause-served

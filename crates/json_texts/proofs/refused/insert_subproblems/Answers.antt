@@ -1,6 +1,5 @@
-use Rattle.std.proofs.Common.{◌≡◌, [], ◌∙◌, ap, subst, codes, arith}
+use Rattle.std.proofs.{Common.◌≡◌, Common.[], Common.◌∙◌, Common.ap, Common.subst, Common.codes, Common.arith, lemmas.Grind.common_steps}
 use Rattle.std.specs.Prelude.{OnOk}
-use Rattle.std.proofs.lemmas.Grind.{common_steps}
 use Rattle.serde_json.specs.{Data.put, View.members_view}
 use Rattle.json_texts.proofs.Plain.{some_put}
 use Rattle.json_texts.proofs.refused.insert_subproblems.Goals as goal

@@ -1,7 +1,6 @@
 use Rattle.std.proofs.Common.{ap, codes, ◌∙◌}
-use Rattle.serde_json.specs.Data.{object, put, unsigned}
+use Rattle.serde_json.specs.{Data.object, Data.put, Data.unsigned, View.members_view}
 use Rattle.serde_json.specs.Data as json
-use Rattle.serde_json.specs.View.{members_view}
 use Rattle.serde_json.proofs.Views.{view-Object}
 use Rattle.json_texts.specs.Refused.{with_subproblems}
 use Rattle.json_texts.proofs.Plain.{problem-members}

@@ -1,5 +1,4 @@
-use Rattle.std.proofs.Common.{◌≡◌, ap, ◌∙◌, map, take, arith}
-use Rattle.std.proofs.lemmas.Grind.{common_steps}
+use Rattle.std.proofs.{Common.◌≡◌, Common.ap, Common.◌∙◌, Common.map, Common.take, Common.arith, lemmas.Grind.common_steps}
 use Rattle.serde_json.specs.{Data.array, View.items_of}
 use Rattle.serde_json.proofs.Views.{view-Array}
 use Rattle.desk_model.specs.Refusals.{subproblem_document}

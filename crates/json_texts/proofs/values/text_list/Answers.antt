@@ -1,7 +1,5 @@
-use Rattle.std.proofs.Common.{◌≡◌, ap, ◌∙◌, map, take, arith}
-use Rattle.std.proofs.lemmas.Grind.{common_steps}
-use Rattle.serde_json.specs.Data.{string, array}
-use Rattle.serde_json.specs.View.{items_of}
+use Rattle.std.proofs.{Common.◌≡◌, Common.ap, Common.◌∙◌, Common.map, Common.take, Common.arith, lemmas.Grind.common_steps}
+use Rattle.serde_json.specs.{Data.string, Data.array, View.items_of}
 use Rattle.serde_json.proofs.Views.{view-Array}
 use Rattle.json_texts.proofs.values.text_list.Goals as goal
 

@@ -1,6 +1,4 @@
-use Rattle.std.proofs.Common.{sym, ◌∙◌, subst, ap, List, ℕ}
-use Rattle.std.specs.Prelude.{bytes_eq}
-use Rattle.std.proofs.lemmas.Slice.Eq.{bytes_eq-Decides}
+use Rattle.std.proofs.{Common.sym, Common.◌∙◌, Common.subst, Common.List, Common.ℕ, Common.arith, lemmas.Slice.Eq.bytes_eq-Decides}
 use Rattle.desk_model.specs.Tokens.{IsBodyMatch, body_matches}
 use Rattle.keys.proofs.{Blanks.body_match_unique, Matches.without_blanks-matched}
 use Rattle.keys.proofs.answers.http_matches.Goals as goal
@@ -16,6 +14,4 @@ returns-clause-matching c =
 
 pub returns-clause-value : goal.returns-clause-value
 unfolding body_matches
-returns-clause-value c =
-    rw c.as_bytes.ensures.value at c.is_same_bytes.ensures
-    ∙ ap (λ l. bytes_eq l c.args.expected.now) (sym (without_blanks-matched c.args.body.now c.without_blanks.result.now c.without_blanks.ensures))
+returns-clause-value c = grind (arith, (without_blanks-matched c.args.body.now c.without_blanks.result.now c.without_blanks.ensures))

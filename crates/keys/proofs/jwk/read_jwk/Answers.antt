@@ -1,6 +1,5 @@
-use Rattle.std.proofs.Common.{◌≡◌, List, ℕ, sym, ◌∙◌, ap}
+use Rattle.std.proofs.{Common.◌≡◌, Common.List, Common.ℕ, Common.sym, Common.◌∙◌, Common.ap, lemmas.Result.IfOk-weaker}
 use Rattle.std.specs.Prelude.{codes, Some}
-use Rattle.std.proofs.lemmas.Result.{IfOk-weaker}
 use Rattle.serde_json.specs.Data.{Data}
 use Rattle.desk_model.specs.Keys.{Key, ec, rsa, okp, text_member, IsEc, IsKeyOf}
 use Rattle.keys.proofs.jwk.read_jwk.Goals as goal

@@ -1,7 +1,5 @@
-use Rattle.std.proofs.Common.{◌≡◌, true, IsUtf8, refl}
-use Rattle.std.specs.Str.{chars, is_utf8}
-use Rattle.std.specs.Char.{encode_utf8}
-use Rattle.std.proofs.lemmas.Str.{IsUtf8-from_is_utf8, is_utf8-from_IsUtf8}
+use Rattle.std.proofs.{Common.◌≡◌, Common.true, Common.IsUtf8, Common.refl, lemmas.Str.IsUtf8-from_is_utf8, lemmas.Str.is_utf8-from_IsUtf8}
+use Rattle.std.specs.{Str.chars, Str.is_utf8, Char.encode_utf8}
 use Rattle.model_examples.proofs.histories.entries_are_formed.Goals as goal
 use Rattle.model_examples.specs.Formed.{utf8_contact, latin_contact}
 

@@ -1,6 +1,5 @@
-use Rattle.model_lives.proofs.{Answering.pictures_stated, Cut.touched_part, Between.parts_answer, Loading.loaded_touched}
-use Rattle.model_lives.proofs.Enough.{parts_ordered, whole_part}
-use Rattle.model_lives.proofs.Work.{enough_ordered, minimal_enough, part_enough}
+use Rattle.model_lives.proofs.{Answering.pictures_stated, Cut.touched_part, Between.parts_answer, Loading.loaded_touched, Enough.parts_ordered}
+use Rattle.model_lives.proofs.{Enough.whole_part, Work.enough_ordered, Work.minimal_enough, Work.part_enough}
 use Rattle.model_lives.proofs.parts.touched_rows_are_enough.Goals as goal
 
 pub returns : goal.returns

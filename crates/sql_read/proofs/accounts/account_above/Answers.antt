@@ -1,6 +1,5 @@
 use Rattle.model_lives.specs.Above.{accounts_above, first_of}
-use Rattle.sql_read.proofs.{LookUpReadings.account_above_reading, LookUpRows.account_above_find}
-use Rattle.sql_read.proofs.Looking.{finds_as, looked, query_as}
+use Rattle.sql_read.proofs.{LookUpReadings.account_above_reading, LookUpRows.account_above_find, Looking.finds_as, Looking.looked, Looking.query_as}
 use Rattle.sql_read.proofs.accounts.account_above.Goals as goal
 
 pub find_rows-requires : goal.find_rows-requires

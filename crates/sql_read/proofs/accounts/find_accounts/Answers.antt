@@ -1,6 +1,5 @@
 use Rattle.model_lives.specs.LookUps.{accounts_where}
-use Rattle.sql_read.proofs.{LookUpReadings.accounts_asked, LookUpRows.accounts_find}
-use Rattle.sql_read.proofs.Looking.{finds_as, looked, query_as}
+use Rattle.sql_read.proofs.{LookUpReadings.accounts_asked, LookUpRows.accounts_find, Looking.finds_as, Looking.looked, Looking.query_as}
 use Rattle.sql_read.proofs.accounts.find_accounts.Goals as goal
 
 pub find_rows-requires : goal.find_rows-requires

@@ -1,7 +1,6 @@
 use Rattle.model_lives.specs.LookUps.{bare_authorizations}
 use Rattle.model_lives.specs.declared.queries.AuthorizationsWhere.TheVariants as authorizations_by
-use Rattle.sql_read.proofs.{LookUpReadings.authorizations_asked, LookUpRows.authorizations_find}
-use Rattle.sql_read.proofs.Looking.{finds_as, looked, query_as}
+use Rattle.sql_read.proofs.{LookUpReadings.authorizations_asked, LookUpRows.authorizations_find, Looking.finds_as, Looking.looked, Looking.query_as}
 use Rattle.sql_read.proofs.authorizations.bare_authorizations.Goals as goal
 
 pub find_rows-requires : goal.find_rows-requires

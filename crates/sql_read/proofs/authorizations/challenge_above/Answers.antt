@@ -1,9 +1,7 @@
-use Rattle.std.proofs.Common.{ap, map, ◌∙◌}
-use Rattle.std.proofs.lemmas.Result.{IfOk-weaker}
+use Rattle.std.proofs.{Common.ap, Common.map, Common.◌∙◌, lemmas.Result.IfOk-weaker}
 use Rattle.model_laws.proofs.Basics.{each_all}
-use Rattle.sql_read.proofs.AboveRows.{challenges_from, first_challenge}
-use Rattle.sql_read.proofs.{KeyedFound.challenge_above_find, LookUpReadings.challenge_above_reading}
 use Rattle.sql_read.proofs.Looking.{finds_as, looked_failed, looked_made, query_as}
+use Rattle.sql_read.proofs.{AboveRows.challenges_from, AboveRows.first_challenge, KeyedFound.challenge_above_find, LookUpReadings.challenge_above_reading}
 use Rattle.sql_read.proofs.authorizations.challenge_above.Goals as goal
 
 pub find_wholes-requires : goal.find_wholes-requires

@@ -2,9 +2,8 @@ use Rattle.std.proofs.Common.{ap, inl, inr, map, subst, sym, ◌∙◌}
 use Rattle.store_book.specs.BookRows.{AreAccounts}
 use Rattle.store_columns.proofs.RowsApart.{accounts-apart}
 use Rattle.sql_read.specs.declared.formats.Format.TheVariants.{Second}
-use Rattle.sql_read.proofs.Streaming.{shown_same}
 use Rattle.sql_read.proofs.BookChecks.{checks_failed, checks_stopped, checks_then, in_format}
-use Rattle.sql_read.proofs.{Readings.accounts_reading, ShownTables.accounts_shown, WholeTables.accounts_whole}
+use Rattle.sql_read.proofs.{Streaming.shown_same, Readings.accounts_reading, ShownTables.accounts_shown, WholeTables.accounts_whole}
 use Rattle.sql_read.proofs.checked.check_accounts.Goals as goal
 
 pub check_table-requires-clause-query : goal.check_table-requires-clause-query

@@ -1,9 +1,8 @@
 use Rattle.std.proofs.Common.{ap, inl, inr, map, ◌∙◌}
 use Rattle.store_columns.proofs.RowsApart.{authorizations-apart}
 use Rattle.sql_read.specs.declared.formats.Format.TheVariants.{Second}
-use Rattle.sql_read.proofs.{AllRows.all_authorizations, Streaming.shown_same}
-use Rattle.sql_read.proofs.BookChecks.{checks_failed, checks_stopped, checks_then, in_format}
-use Rattle.sql_read.proofs.{Readings.authorizations_reading, ShownTables.authorizations_shown, WholeTables.authorizations_whole}
+use Rattle.sql_read.proofs.{AllRows.all_authorizations, Streaming.shown_same, BookChecks.checks_failed, BookChecks.checks_stopped, BookChecks.checks_then}
+use Rattle.sql_read.proofs.{BookChecks.in_format, Readings.authorizations_reading, ShownTables.authorizations_shown, WholeTables.authorizations_whole}
 use Rattle.sql_read.proofs.checked.check_authorizations.Goals as goal
 
 pub check_table-requires-clause-query : goal.check_table-requires-clause-query

@@ -2,8 +2,7 @@ use Rattle.std.proofs.Common.{◌≡◌, ap, inr, subst, sym, ◌∙◌}
 use Rattle.sqlite.specs.Held.{state}
 use Rattle.store_book.specs.BookRows.{answered_numbers}
 use Rattle.store_columns.proofs.RowsApart.{challenges-apart}
-use Rattle.sql_read.specs.BookShown.{Checks, ShowsKeysIn}
-use Rattle.sql_read.specs.declared.formats.Format.TheVariants.{Second}
+use Rattle.sql_read.specs.{BookShown.Checks, BookShown.ShowsKeysIn, declared.formats.Format.TheVariants.Second}
 use Rattle.sql_read.proofs.{AllRows.all_challenges, Streaming.shown_same}
 use Rattle.sql_read.proofs.BookChecks.{checks_failed, checks_last, checks_stopped, checks_then, in_format}
 use Rattle.sql_read.proofs.{Readings.challenges_reading, ShownTables.challenges_shown, WholeTables.challenges_whole}

@@ -4,10 +4,8 @@ use Rattle.sqlite.specs.{Held.state, State.HasCleanDisk}
 use Rattle.sql_schema.specs.Stays.{Asks}
 use Rattle.sql_schema.proofs.StaysLemmas.{asks_then, stays_unchanged}
 use Rattle.sql_read.specs.Failures.{FailsHere, IsMet, IsOutOfMemory}
-use Rattle.sql_read.proofs.MetFaults.{met_behind, query_met}
-use Rattle.sql_read.proofs.Results.{failed_as}
-use Rattle.sql_read.proofs.Streaming.{asks_begun, asks_refused, begun_query, given_all, given_more, given_none, met_refused, refused_query}
-use Rattle.sql_read.proofs.Streaming.{stops_all}
+use Rattle.sql_read.proofs.Streaming.{asks_begun, asks_refused, begun_query, given_all, given_more, given_none, met_refused, refused_query, stops_all}
+use Rattle.sql_read.proofs.{MetFaults.met_behind, MetFaults.query_met, Results.failed_as}
 use Rattle.sql_read.proofs.checked.check_each.Goals as goal
 
 pub returns-in_err-rows-clause-asks : goal.returns-in_err-rows-clause-asks

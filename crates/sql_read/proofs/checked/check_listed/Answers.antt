@@ -2,9 +2,8 @@ use Rattle.std.proofs.Common.{inl, inr, subst, ◌∙◌}
 use Rattle.store_columns.proofs.RowsApart.{listed-apart}
 use Rattle.store_book.specs.BookRows.{AreListed}
 use Rattle.sql_read.specs.declared.formats.Format.TheVariants.{Second}
-use Rattle.sql_read.proofs.AllRows.{all_listed}
 use Rattle.sql_read.proofs.BookChecks.{checks_failed, checks_stopped, checks_then, in_format, table_as}
-use Rattle.sql_read.proofs.{Readings.listed_reading, WholeTables.listed_readable}
+use Rattle.sql_read.proofs.{AllRows.all_listed, Readings.listed_reading, WholeTables.listed_readable}
 use Rattle.sql_read.proofs.checked.check_listed.Goals as goal
 
 pub check_table-requires-clause-query : goal.check_table-requires-clause-query

@@ -1,9 +1,8 @@
 use Rattle.std.proofs.Common.{inl, ◌∙◌}
 use Rattle.store_columns.proofs.RowsApart.{metas-apart}
-use Rattle.sql_read.proofs.{AllRows.counters_kept, Streaming.shown_same}
 use Rattle.sql_read.proofs.BookChecks.{checks_failed, checks_stopped, checks_then}
+use Rattle.sql_read.proofs.{AllRows.counters_kept, Streaming.shown_same, Readings.meta_reading, WholeTables.meta_whole}
 use Rattle.sql_read.specs.declared.formats.Format.TheVariants.{Second}
-use Rattle.sql_read.proofs.{Readings.meta_reading, WholeTables.meta_whole}
 use Rattle.sql_read.proofs.checked.check_meta.Goals as goal
 
 pub check_table-requires-clause-query : goal.check_table-requires-clause-query

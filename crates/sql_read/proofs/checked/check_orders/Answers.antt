@@ -1,9 +1,8 @@
 use Rattle.std.proofs.Common.{ap, inl, inr, map, ◌∙◌}
 use Rattle.store_columns.proofs.RowsApart.{orders-apart}
 use Rattle.sql_read.specs.declared.formats.Format.TheVariants.{Second}
-use Rattle.sql_read.proofs.{AllRows.all_orders, Streaming.shown_same}
 use Rattle.sql_read.proofs.BookChecks.{checks_failed, checks_stopped, checks_then, in_format}
-use Rattle.sql_read.proofs.{Readings.orders_reading, ShownTables.orders_shown, WholeTables.orders_whole}
+use Rattle.sql_read.proofs.{AllRows.all_orders, Streaming.shown_same, Readings.orders_reading, ShownTables.orders_shown, WholeTables.orders_whole}
 use Rattle.sql_read.proofs.checked.check_orders.Goals as goal
 
 pub check_table-requires-clause-query : goal.check_table-requires-clause-query

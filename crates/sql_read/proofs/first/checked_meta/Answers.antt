@@ -1,7 +1,5 @@
 use Rattle.std.proofs.Common.{inl, inr, subst, sym}
-use Rattle.sql_read.specs.{BookShown.ShowsNonces, First.ShowsFirstMeta}
-use Rattle.sql_read.specs.FirstRows.{IsFirstMeta, IsWithRows}
-use Rattle.sql_read.specs.declared.formats.Format.TheVariants.{First}
+use Rattle.sql_read.specs.{BookShown.ShowsNonces, First.ShowsFirstMeta, FirstRows.IsFirstMeta, FirstRows.IsWithRows, declared.formats.Format.TheVariants.First}
 use Rattle.sql_read.proofs.FirstChecked.{no_meta, no_rows, reads_err, reads_ok, tables_then}
 use Rattle.sql_read.proofs.WholeTables.{meta_whole}
 use Rattle.sql_read.proofs.first.checked_meta.Goals as goal

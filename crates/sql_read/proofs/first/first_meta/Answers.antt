@@ -1,6 +1,5 @@
-use Rattle.sql_read.proofs.FirstChecked.{has_first_book, meta_is}
+use Rattle.sql_read.proofs.{FirstChecked.has_first_book, FirstChecked.meta_is, Results.none_said, Results.read_then}
 use Rattle.sql_read.specs.FirstRows.{IsFirstMeta}
-use Rattle.sql_read.proofs.Results.{none_said, read_then}
 use Rattle.sql_read.proofs.first.first_meta.Goals as goal
 
 pub returns-clause-book : goal.returns-clause-book

@@ -1,6 +1,5 @@
 use Rattle.std.proofs.Common.{◌≡◌, ap, length, rules, subst, sym, ◌∙◌}
-use Rattle.std.proofs.Math.ListN.{get_or, get_or-map}
-use Rattle.std.proofs.lemmas.List.{length-map}
+use Rattle.std.proofs.{Math.ListN.get_or, Math.ListN.get_or-map, lemmas.List.length-map}
 use Rattle.store_columns.specs.{Columns.meta_columns, Limits.IsStoredMeta, Reading.IsRead}
 use Rattle.sql_read.specs.{First.raised_meta, Spelled.meta_in}
 use Rattle.sql_read.proofs.first.only_meta.Goals as goal

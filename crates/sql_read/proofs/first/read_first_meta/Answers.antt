@@ -1,13 +1,11 @@
 use Rattle.std.proofs.Common.{◌≡◌, ◌≢◌, [], ◌∷◌, inl, inr, map, refl, ◌∙◌}
+use Rattle.std.proofs.lemmas.Simd.{map-map}
 use Rattle.store_columns.specs.{Columns.meta_columns, Limits.IsStoredMeta}
 use Rattle.desk_model.specs.declared.rows.Meta.{Meta}
-use Rattle.std.proofs.lemmas.Simd.{map-map}
-use Rattle.sql_read.specs.{Failures.IsOutOfMemory, First.raised_meta, Spelled.meta_in}
+use Rattle.sql_read.specs.{Failures.IsOutOfMemory, First.raised_meta, Spelled.meta_in, declared.formats.Format.TheVariants.Second}
 use Rattle.sqlite.specs.Held.{state}
-use Rattle.sql_read.proofs.{FirstChecked.reads_err, Looking.query_as, Looking.rows_as, Readings.meta_reading, ShownRows.shown_now}
-use Rattle.sql_read.proofs.MetFaults.{no_device}
-use Rattle.sql_read.specs.declared.formats.Format.TheVariants.{Second}
 use Rattle.sql_read.proofs.Results.{either_then, fails_then, fails_under, found_or, read_both, read_then}
+use Rattle.sql_read.proofs.{FirstChecked.reads_err, Looking.query_as, Looking.rows_as, Readings.meta_reading, ShownRows.shown_now, MetFaults.no_device}
 use Rattle.sql_schema.specs.declared.meta.TheConstants as meta
 use Rattle.sql_read.proofs.first.read_first_meta.Goals as goal
 

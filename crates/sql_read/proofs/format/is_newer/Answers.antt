@@ -1,11 +1,9 @@
 use Rattle.std.proofs.Common.{IsTrue, sym, ◌∙◌}
 use Rattle.sqlite.specs.Held.{state}
 use Rattle.sql_read.proofs.FormatLemmas.{desk_fails, later_fails, later_is_newer, never_newer}
-use Rattle.sql_read.proofs.Readings.{format_reading}
+use Rattle.sql_read.proofs.{Readings.format_reading, Looking.query_as, Looking.rows_as, Results.failed_as, Results.not_true}
 use Rattle.sql_schema.specs.Failing.{IsFailure}
-use Rattle.sql_read.specs.Format.{FailsToShowFormat}
-use Rattle.sql_read.proofs.{Looking.query_as, Looking.rows_as, Results.failed_as, Results.not_true}
-use Rattle.sql_read.specs.declared.formats.Format.TheVariants.{First, Second}
+use Rattle.sql_read.specs.{Format.FailsToShowFormat, declared.formats.Format.TheVariants.First, declared.formats.Format.TheVariants.Second}
 use Rattle.sql_read.proofs.format.is_newer.Goals as goal
 
 pub all_rows-requires : goal.all_rows-requires

@@ -1,6 +1,5 @@
 use Rattle.std.proofs.Common.{[], ◌∷◌, sym, ◌∙◌}
-use Rattle.sql_read.specs.declared.formats.Format.TheVariants.{Second}
-use Rattle.sql_read.specs.LookUpFaults.{IsOfMemory}
+use Rattle.sql_read.specs.{declared.formats.Format.TheVariants.Second, LookUpFaults.IsOfMemory}
 use Rattle.sql_read.proofs.{LookUpRows.meta_find, Readings.meta_reading, Results.fails_then}
 use Rattle.sql_read.proofs.Looking.{finds_as, looked_failed, looked_made, query_as}
 use Rattle.sql_read.proofs.meta.meta_row.Goals as goal

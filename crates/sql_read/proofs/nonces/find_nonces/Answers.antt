@@ -1,6 +1,5 @@
 use Rattle.model_lives.specs.LookUps.{nonces_where}
-use Rattle.sql_read.proofs.{LookUpReadings.nonces_asked, LookUpRows.nonces_find}
-use Rattle.sql_read.proofs.Looking.{finds_as, looked, query_as}
+use Rattle.sql_read.proofs.{LookUpReadings.nonces_asked, LookUpRows.nonces_find, Looking.finds_as, Looking.looked, Looking.query_as}
 use Rattle.sql_read.proofs.nonces.find_nonces.Goals as goal
 
 pub find_rows-requires : goal.find_rows-requires

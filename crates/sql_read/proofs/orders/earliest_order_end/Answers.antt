@@ -1,7 +1,6 @@
 use Rattle.std.proofs.Common.{ap, ◌∙◌}
 use Rattle.sql_read.specs.Earliest.{order_ends}
-use Rattle.sql_read.proofs.EarliestRows.{earliest_as, order_end_find}
-use Rattle.sql_read.proofs.{LookUpReadings.order_end_reading, LookUpReadings.text, Looking.query_as}
+use Rattle.sql_read.proofs.{EarliestRows.earliest_as, EarliestRows.order_end_find, LookUpReadings.order_end_reading, LookUpReadings.text, Looking.query_as}
 use Rattle.sql_schema.specs.declared.orders.TheConstants as ord
 use Rattle.sql_read.proofs.orders.earliest_order_end.Goals as goal
 

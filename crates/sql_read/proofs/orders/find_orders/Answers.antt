@@ -1,7 +1,6 @@
 use Rattle.model_laws.proofs.Keeps.{each-filter}
 use Rattle.model_lives.specs.LookUps.{orders_where}
-use Rattle.sql_read.proofs.{LookUpReadings.orders_asked, LookUpRows.orders_find, UnderLemmas.orders_have}
-use Rattle.sql_read.proofs.Looking.{finds_as, looked, query_as}
+use Rattle.sql_read.proofs.{LookUpReadings.orders_asked, LookUpRows.orders_find, UnderLemmas.orders_have, Looking.finds_as, Looking.looked, Looking.query_as}
 use Rattle.sql_read.proofs.orders.find_orders.Goals as goal
 
 pub find_wholes-requires : goal.find_wholes-requires

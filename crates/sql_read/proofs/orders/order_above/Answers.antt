@@ -1,8 +1,7 @@
 use Rattle.model_laws.proofs.Keeps.{each-filter}
 use Rattle.model_lives.specs.Above.{first_of, orders_above}
-use Rattle.sql_read.proofs.{LookUpReadings.order_above_reading, LookUpRows.order_above_find}
-use Rattle.sql_read.proofs.{Lists.each_take, UnderLemmas.orders_have}
 use Rattle.sql_read.proofs.Looking.{finds_as, looked, query_as}
+use Rattle.sql_read.proofs.{LookUpReadings.order_above_reading, LookUpRows.order_above_find, Lists.each_take, UnderLemmas.orders_have}
 use Rattle.sql_read.proofs.orders.order_above.Goals as goal
 
 pub find_wholes-requires : goal.find_wholes-requires

@@ -1,7 +1,6 @@
 use Rattle.std.proofs.Common.{◌∙◌}
 use Rattle.sql_read.proofs.ListingFound.{listing_are, listing_find, listing_have, listing_orders}
-use Rattle.sql_read.proofs.LookUpReadings.{listing_reading}
-use Rattle.sql_read.proofs.Looking.{finds_as, looked, query_as}
+use Rattle.sql_read.proofs.{LookUpReadings.listing_reading, Looking.finds_as, Looking.looked, Looking.query_as}
 use Rattle.sql_read.proofs.orders.orders_with_authorization.Goals as goal
 
 pub find_wholes-requires : goal.find_wholes-requires

@@ -2,8 +2,7 @@ use Rattle.std.proofs.Common.{map}
 use Rattle.store_columns.specs.Flat.{without_listed}
 use Rattle.model_lives.specs.LookUps.{orders_processing}
 use Rattle.model_lives.specs.declared.queries.OrdersWhere.TheVariants as orders_by
-use Rattle.sql_read.proofs.{LookUpReadings.orders_asked, LookUpRows.orders_find}
-use Rattle.sql_read.proofs.Looking.{finds_as, looked, query_as}
+use Rattle.sql_read.proofs.{LookUpReadings.orders_asked, LookUpRows.orders_find, Looking.finds_as, Looking.looked, Looking.query_as}
 use Rattle.sql_read.proofs.orders.processing_orders.Goals as goal
 
 pub find_rows-requires : goal.find_rows-requires

@@ -1,6 +1,5 @@
 use Rattle.model_lives.specs.LookUps.{summaries_of}
-use Rattle.sql_read.proofs.{LookUpReadings.summaries_reading, LookUpRows.summaries_find}
-use Rattle.sql_read.proofs.Looking.{finds_as, looked, query_as}
+use Rattle.sql_read.proofs.{LookUpReadings.summaries_reading, LookUpRows.summaries_find, Looking.finds_as, Looking.looked, Looking.query_as}
 use Rattle.sql_read.proofs.orders.summaries_of.Goals as goal
 
 pub find_rows-requires : goal.find_rows-requires

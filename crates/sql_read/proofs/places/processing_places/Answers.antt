@@ -3,9 +3,8 @@ use Rattle.store_columns.specs.Flat.{listed_rows}
 use Rattle.desk_model.specs.Kept.{EachOf}
 use Rattle.model_lives.specs.LookUps.{bare_authorizations, orders_processing}
 use Rattle.sql_schema.specs.declared.listed.TheConstants as ord_authz
-use Rattle.sql_read.proofs.LookUpReadings.{places_reading, text}
-use Rattle.sql_read.proofs.Looking.{finds_as, looked, query_as}
-use Rattle.sql_read.proofs.PlaceFound.{are_places, place_rows, places_find}
+use Rattle.sql_read.proofs.{LookUpReadings.places_reading, LookUpReadings.text, Looking.finds_as, Looking.looked, Looking.query_as, PlaceFound.are_places}
+use Rattle.sql_read.proofs.{PlaceFound.place_rows, PlaceFound.places_find}
 use Rattle.sql_read.proofs.places.processing_places.Goals as goal
 
 pub find_rows-requires : goal.find_rows-requires

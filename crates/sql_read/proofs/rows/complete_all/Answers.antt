@@ -1,11 +1,9 @@
 use Rattle.std.proofs.Common.{◌++◌, [], ◌∷◌, ◌∙◌, ap, append-nil, append_assoc, arith, refl, sym}
 use Rattle.std.proofs.lemmas.List.{nil_from_length}
 use Rattle.std.specs.Vec.Iter.{into_iter_items}
-use Rattle.sqlite.specs.Held.{state}
+use Rattle.sqlite.specs.{Held.state, declared.error.Error.TheVariants.SqliteFailure, declared.error.ErrorCode.TheVariants.OutOfMemory}
 use Rattle.sql_schema.proofs.StaysLemmas.{asks_then}
-use Rattle.sqlite.specs.declared.{error.Error.TheVariants.SqliteFailure, error.ErrorCode.TheVariants.OutOfMemory}
-use Rattle.sql_read.specs.LookUpFaults.{IsOfMemory}
-use Rattle.sql_read.specs.declared.fault.ReadFault.TheVariants.{Engine}
+use Rattle.sql_read.specs.{LookUpFaults.IsOfMemory, declared.fault.ReadFault.TheVariants.Engine}
 use Rattle.sql_read.proofs.{Looking.stopped, LookUpFaults.all_of_memory, Results.failed_as}
 use Rattle.sql_read.proofs.NestLemmas.{filled_failed, filled_first, filled_more, filled_on}
 use Rattle.sql_read.proofs.rows.complete_all.Goals as goal

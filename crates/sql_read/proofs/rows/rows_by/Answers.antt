@@ -1,7 +1,6 @@
 use Rattle.sqlite.proofs.StateLemmas.{survives_weaker}
 use Rattle.sqlite.specs.Values.{bound}
-use Rattle.sql_read.proofs.Asking.{stays_queried, unchanged_queried}
-use Rattle.sql_read.proofs.{MetFaults.query_met, Results.fails_then, Selecting.commits_none}
+use Rattle.sql_read.proofs.{Asking.stays_queried, Asking.unchanged_queried, MetFaults.query_met, Results.fails_then, Selecting.commits_none}
 use Rattle.sql_read.proofs.rows.rows_by.Goals as goal
 
 pub returns : goal.returns

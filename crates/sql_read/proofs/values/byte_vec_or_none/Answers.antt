@@ -1,7 +1,6 @@
 use Rattle.std.proofs.Common.{◌≡◌, ◌⊎◌, ℕ, List}
 use Rattle.sqlite.specs.declared.types.Value.TheVariants.{Null, Blob}
-use Rattle.sql_read.proofs.MetFaults.{value_is_none}
-use Rattle.sql_read.proofs.ReadValues.{only_memory, reads_blob_or_null}
+use Rattle.sql_read.proofs.{MetFaults.value_is_none, ReadValues.only_memory, ReadValues.reads_blob_or_null}
 use Rattle.sql_read.proofs.values.byte_vec_or_none.Goals as goal
 
 pub returns-clause-fails : goal.returns-clause-fails

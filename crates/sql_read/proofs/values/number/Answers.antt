@@ -1,6 +1,5 @@
 use Rattle.sqlite.specs.Values.{IsInt}
-use Rattle.sql_read.proofs.MetFaults.{value_is_none}
-use Rattle.sql_read.proofs.ReadValues.{only_memory, reads_int}
+use Rattle.sql_read.proofs.{MetFaults.value_is_none, ReadValues.only_memory, ReadValues.reads_int}
 use Rattle.sql_read.proofs.values.number.Goals as goal
 
 pub returns-clause-fails : goal.returns-clause-fails

@@ -1,8 +1,6 @@
 use Rattle.std.proofs.Common.{◌≡◌, ◌⊎◌}
-use Rattle.sqlite.specs.Values.{IsInt}
-use Rattle.sqlite.specs.declared.types.Value.TheVariants.{Null}
-use Rattle.sql_read.proofs.MetFaults.{value_is_none}
-use Rattle.sql_read.proofs.ReadValues.{only_memory, reads_int_or_null}
+use Rattle.sqlite.specs.{Values.IsInt, declared.types.Value.TheVariants.Null}
+use Rattle.sql_read.proofs.{MetFaults.value_is_none, ReadValues.only_memory, ReadValues.reads_int_or_null}
 use Rattle.sql_read.proofs.values.number_or_none.Goals as goal
 
 pub returns-clause-fails : goal.returns-clause-fails

@@ -1,7 +1,6 @@
 use Rattle.std.proofs.Common.{◌≡◌, ℕ, List, IsUtf8}
 use Rattle.sqlite.specs.declared.types.Value.TheVariants.{Text}
-use Rattle.sql_read.proofs.MetFaults.{value_is_none}
-use Rattle.sql_read.proofs.ReadValues.{only_memory, reads_text}
+use Rattle.sql_read.proofs.{MetFaults.value_is_none, ReadValues.only_memory, ReadValues.reads_text}
 use Rattle.sql_read.proofs.values.string.Goals as goal
 
 pub returns-clause-fails : goal.returns-clause-fails

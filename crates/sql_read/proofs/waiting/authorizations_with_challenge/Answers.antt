@@ -1,12 +1,9 @@
-use Rattle.std.proofs.Common.{ap, subst, sym, ◌∙◌}
-use Rattle.std.proofs.lemmas.Result.{IfOk-weaker}
+use Rattle.std.proofs.{Common.ap, Common.subst, Common.sym, Common.◌∙◌, lemmas.Result.IfOk-weaker}
 use Rattle.model_laws.proofs.Basics.{each_all}
-use Rattle.sql_read.specs.{Joined.gathered, Looking.Finds}
-use Rattle.sql_read.specs.Spelled.{FitsJoined, joined_in}
+use Rattle.sql_read.specs.{Joined.gathered, Looking.Finds, Spelled.FitsJoined, Spelled.joined_in}
 use Rattle.sql_read.proofs.BesideFound.{beside_find, beside_parts, beside_rows, owner_is}
-use Rattle.sql_read.proofs.JoinParts.{IsStoredJoined, joined_columns}
-use Rattle.sql_read.proofs.LookUpReadings.{beside_reading}
 use Rattle.sql_read.proofs.Looking.{finds_as, looked_failed, looked_made, query_as}
+use Rattle.sql_read.proofs.{JoinParts.IsStoredJoined, JoinParts.joined_columns, LookUpReadings.beside_reading}
 use Rattle.sql_read.proofs.waiting.authorizations_with_challenge.Goals as goal
 
 pub find_wholes-requires : goal.find_wholes-requires

@@ -3,12 +3,9 @@ use Rattle.desk_model.specs.Kept.{EachOf}
 use Rattle.model_laws.proofs.Basics.{each_all}
 use Rattle.model_lives.specs.LookUps.{AreWaiting, bare_authorizations}
 use Rattle.sql_schema.specs.declared.challenges.TheConstants as chall
-use Rattle.sql_read.specs.Spelled.{FitsJoined, joined_in}
-use Rattle.sql_read.specs.Looking.{Finds}
-use Rattle.sql_read.proofs.JoinFound.{are_found, joined_find, parts_are, waiting_rows}
-use Rattle.sql_read.proofs.JoinParts.{IsStoredJoined, joined_columns}
-use Rattle.sql_read.proofs.LookUpReadings.{joined_reading, text}
-use Rattle.sql_read.proofs.Looking.{finds_as, looked, query_as}
+use Rattle.sql_read.specs.{Spelled.FitsJoined, Spelled.joined_in, Looking.Finds}
+use Rattle.sql_read.proofs.{JoinFound.are_found, JoinFound.joined_find, JoinFound.parts_are, JoinFound.waiting_rows, JoinParts.IsStoredJoined}
+use Rattle.sql_read.proofs.{JoinParts.joined_columns, LookUpReadings.joined_reading, LookUpReadings.text, Looking.finds_as, Looking.looked, Looking.query_as}
 use Rattle.sql_read.proofs.waiting.waiting_challenges.Goals as goal
 
 pub find_wholes-requires : goal.find_wholes-requires

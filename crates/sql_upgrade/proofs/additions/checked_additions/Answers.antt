@@ -1,8 +1,7 @@
 use Rattle.std.proofs.Common.{◌≡◌, refl, subst, sym, ◌∙◌}
 use Rattle.std.specs.Prelude.{IsSome}
 use Rattle.sqlite.specs.Held.{state}
-use Rattle.sql_upgrade.specs.Checked.{AreChecked}
-use Rattle.sql_upgrade.specs.FoundKeys.{HasKeys, LacksThumbs, ShowsThumbs}
+use Rattle.sql_upgrade.specs.{Checked.AreChecked, FoundKeys.HasKeys, FoundKeys.LacksThumbs, FoundKeys.ShowsThumbs}
 use Rattle.sql_upgrade.proofs.{FoundKeysAre.found_keys_are, KeysThere.no_keys}
 use Rattle.sql_read.proofs.FirstChecked.{reads_err, reads_ok, tables_then}
 use Rattle.sql_upgrade.proofs.additions.checked_additions.Goals as goal

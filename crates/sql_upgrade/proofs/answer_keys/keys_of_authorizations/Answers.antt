@@ -3,12 +3,11 @@ use Rattle.store_columns.specs.Columns.{challenge_columns}
 use Rattle.store_columns.proofs.RowsApart.{authorizations-apart}
 use Rattle.desk_model.specs.Kept.{EachOf}
 use Rattle.sql_read.specs.{Checking.ShowsOnly, Spelled.FitsChallenge, Spelled.challenge_in}
-use Rattle.sql_read.proofs.Streaming.{shown_same}
+use Rattle.sql_read.proofs.{Streaming.shown_same, FirstTables.authorizations_selected, FirstTables.first_authorizations, FirstChecked.reads_ok}
+use Rattle.sql_read.proofs.{FirstChecked.tables_then}
 use Rattle.sql_schema.specs.declared.challenges.TheConstants as chall
-use Rattle.sql_read.proofs.FirstTables.{authorizations_selected, first_authorizations}
 use Rattle.sqlite.specs.Held.{state}
 use Rattle.sql_upgrade.specs.FoundKeys.{HasKey, ShowsAnswers, ShowsOwners, account_rows}
-use Rattle.sql_read.proofs.FirstChecked.{reads_ok, tables_then}
 use Rattle.sql_upgrade.proofs.KeyReadings.{table_failed}
 use Rattle.sql_upgrade.proofs.answer_keys.keys_of_authorizations.Goals as goal
 

@@ -2,9 +2,8 @@ use Rattle.std.proofs.Common.{◌≡◌, inr, subst, subst₂, sym}
 use Rattle.sqlite.specs.Held.{state}
 use Rattle.desk_model.specs.Kept.{EachOf}
 use Rattle.store_columns.proofs.RowsApart.{challenges-apart}
-use Rattle.sql_read.proofs.FirstTables.{challenges_selected, first_challenges}
-use Rattle.sql_read.proofs.BookChecks.{table_as}
 use Rattle.sql_read.proofs.Results.{found_or, found_then, read_both}
+use Rattle.sql_read.proofs.{FirstTables.challenges_selected, FirstTables.first_challenges, BookChecks.table_as}
 use Rattle.sql_upgrade.specs.FoundKeys.{HasKey, LacksAnswers, ShowsAnswers, row_keys}
 use Rattle.sql_upgrade.proofs.KeyReadings.{table_read}
 use Rattle.sql_upgrade.proofs.answer_keys.keys_of_challenges.Goals as goal

@@ -2,11 +2,9 @@ use Rattle.std.proofs.Common.{ap, inl, inr, subst, sym, ◌∙◌}
 use Rattle.store_columns.proofs.RowsApart.{accounts-apart}
 use Rattle.desk_model.specs.Kept.{EachOf}
 use Rattle.sql_read.specs.Only.{ShowsOnlyFirstRows}
-use Rattle.sql_read.proofs.Streaming.{shown_same}
-use Rattle.sql_read.proofs.FirstTables.{accounts_selected, first_accounts}
+use Rattle.sql_read.proofs.{Streaming.shown_same, FirstTables.accounts_selected, FirstTables.first_accounts, FirstChecked.reads_ok, FirstChecked.tables_then}
 use Rattle.sqlite.specs.Held.{state}
 use Rattle.sql_upgrade.specs.FoundKeys.{HasKey, ShowsOwners, ShowsThumbs, account_rows, thumb_rows}
-use Rattle.sql_read.proofs.FirstChecked.{reads_ok, tables_then}
 use Rattle.sql_upgrade.proofs.KeyReadings.{table_failed}
 use Rattle.sql_upgrade.proofs.answer_keys.read_keys.Goals as goal
 

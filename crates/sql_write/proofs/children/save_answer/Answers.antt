@@ -1,11 +1,7 @@
 use Rattle.std.proofs.Common.{◌∙◌, Ok, subst, sym}
 use Rattle.std.specs.Prelude.{option_copied, option_to_list}
-use Rattle.sql_write.proofs.KeyRows.{key_of_answer}
-use Rattle.sql_write.proofs.Over.{over_none, over_one}
-use Rattle.sql_write.proofs.Written.{nothing_written, written_as}
-use Rattle.sql_write.specs.Makes.{PutsAllOver, key_under}
-use Rattle.sql_write.specs.Refusals.{HasWritten}
-use Rattle.sql_write.specs.Statements.{of_some, saves_key}
+use Rattle.sql_write.proofs.{KeyRows.key_of_answer, Over.over_none, Over.over_one, Written.nothing_written, Written.written_as}
+use Rattle.sql_write.specs.{Makes.PutsAllOver, Makes.key_under, Refusals.HasWritten, Statements.of_some, Statements.saves_key}
 use Rattle.sql_write.proofs.children.save_answer.Goals as goal
 use Rattle.sql_tables.specs.Layouts.{key_layout}
 

@@ -1,8 +1,7 @@
 use Rattle.std.proofs.Common.{◌∙◌, arith, refl, rules}
 use Rattle.std.specs.Prelude.{option_copied}
 use Rattle.sql_write.specs.{Fits.FitsChallenge, Makes.key_under, Statements.saves_answer}
-use Rattle.sql_write.proofs.RowsInTurn.{each_owned, keys_turns}
-use Rattle.sql_write.proofs.Written.{turned_all, turned_more, turned_none, turned_until}
+use Rattle.sql_write.proofs.{RowsInTurn.each_owned, RowsInTurn.keys_turns, Written.turned_all, Written.turned_more, Written.turned_none, Written.turned_until}
 use Rattle.sql_write.proofs.children.save_answers.Goals as goal
 
 pub loop-row-init : goal.loop-row-init

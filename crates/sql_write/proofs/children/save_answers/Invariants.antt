@@ -1,8 +1,7 @@
 use Rattle.std.proofs.Common.{◌≡◌}
 use Rattle.std.specs.Prelude.{option_copied}
 use Rattle.sql_write.specs.{Makes.key_under, Statements.saves_answer}
-use Rattle.sql_write.proofs.RowsInTurn.{keys_turns}
-use Rattle.sql_write.proofs.Written.{HasWrittenFirst}
+use Rattle.sql_write.proofs.{RowsInTurn.keys_turns, Written.HasWrittenFirst}
 use Rattle.sql_write.proofs.children.save_answers.Given as goal
 
 abbrev pub invariant-loop-row : goal.invariant-loop-row

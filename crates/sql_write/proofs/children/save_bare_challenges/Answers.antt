@@ -1,9 +1,8 @@
 use Rattle.std.proofs.Common.{◌∙◌, arith, refl, rules}
 use Rattle.std.specs.Prelude.{option_copied}
 use Rattle.sql_write.specs.{Fits.FitsChallenge, Makes.challenge_under, Statements.saves_challenge}
-use Rattle.sql_write.proofs.RowsInTurn.{each_owned, over_turns}
+use Rattle.sql_write.proofs.{RowsInTurn.each_owned, RowsInTurn.over_turns, Written.turned_all, Written.turned_more, Written.turned_none, Written.turned_until}
 use Rattle.sql_tables.specs.Layouts.{challenge_layout}
-use Rattle.sql_write.proofs.Written.{turned_all, turned_more, turned_none, turned_until}
 use Rattle.sql_write.proofs.children.save_bare_challenges.Goals as goal
 
 pub loop-row-init : goal.loop-row-init

@@ -1,9 +1,8 @@
 use Rattle.std.proofs.Common.{◌≡◌}
 use Rattle.std.specs.Prelude.{option_copied}
 use Rattle.sql_write.specs.{Makes.challenge_under, Statements.saves_challenge}
-use Rattle.sql_write.proofs.RowsInTurn.{over_turns}
+use Rattle.sql_write.proofs.{RowsInTurn.over_turns, Written.HasWrittenFirst}
 use Rattle.sql_tables.specs.Layouts.{challenge_layout}
-use Rattle.sql_write.proofs.Written.{HasWrittenFirst}
 use Rattle.sql_write.proofs.children.save_bare_challenges.Given as goal
 
 abbrev pub invariant-loop-row : goal.invariant-loop-row

@@ -1,9 +1,7 @@
 use Rattle.std.proofs.Common.{◌∙◌, ap}
 use Rattle.std.specs.Prelude.{option_copied, option_map, nat_lt}
-use Rattle.sql_write.proofs.Differing.{challenge_differs}
-use Rattle.sql_write.proofs.Over.{differs_under, set_none, set_some}
-use Rattle.sql_write.specs.{Differences.challenge_difference, Stored.stored_challenge}
-use Rattle.sql_write.specs.Statements.{challenge_writing, writes}
+use Rattle.sql_write.proofs.{Differing.challenge_differs, Over.differs_under, Over.set_none, Over.set_some}
+use Rattle.sql_write.specs.{Differences.challenge_difference, Stored.stored_challenge, Statements.challenge_writing, Statements.writes}
 use Rattle.sql_write.proofs.children.save_challenge.Goals as goal
 
 pub returns-in-Some-clause-writes : goal.returns-in-Some-clause-writes

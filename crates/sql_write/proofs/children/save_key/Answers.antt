@@ -1,7 +1,6 @@
 use Rattle.std.proofs.Common.{◌∙◌, ap, refl}
 use Rattle.std.specs.Prelude.{option_copied, option_map}
-use Rattle.sql_write.proofs.{Differing.key_differs, RowsInTurn.writes_added, Written.written_as}
-use Rattle.sql_write.proofs.Over.{set_none, set_some}
+use Rattle.sql_write.proofs.{Differing.key_differs, RowsInTurn.writes_added, Written.written_as, Over.set_none, Over.set_some}
 use Rattle.sql_write.specs.{Differences.key_difference, Makes.key_under, Write.write, Stored.stored_challenge}
 use Rattle.sql_write.specs.Statements.{key_writing, lacks_key, writes}
 use Rattle.sql_tables.specs.Layouts.{key_layout}

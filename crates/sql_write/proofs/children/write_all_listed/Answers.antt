@@ -1,7 +1,6 @@
 use Rattle.std.proofs.Common.{◌∙◌, arith, refl, rules}
 use Rattle.sql_write.specs.{Fits.FitsListed, Statements.writes_listed}
-use Rattle.sql_write.proofs.RowsInTurn.{each_owned, listed_turns}
-use Rattle.sql_write.proofs.Written.{turned_all, turned_more, turned_none, turned_until}
+use Rattle.sql_write.proofs.{RowsInTurn.each_owned, RowsInTurn.listed_turns, Written.turned_all, Written.turned_more, Written.turned_none, Written.turned_until}
 use Rattle.sql_write.proofs.children.write_all_listed.Goals as goal
 
 pub loop-row-init : goal.loop-row-init

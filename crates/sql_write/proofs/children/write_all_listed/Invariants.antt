@@ -1,7 +1,6 @@
 use Rattle.std.proofs.Common.{◌≡◌}
 use Rattle.sql_write.specs.Statements.{writes_listed}
-use Rattle.sql_write.proofs.RowsInTurn.{listed_turns}
-use Rattle.sql_write.proofs.Written.{HasWrittenFirst}
+use Rattle.sql_write.proofs.{RowsInTurn.listed_turns, Written.HasWrittenFirst}
 use Rattle.sql_write.proofs.children.write_all_listed.Given as goal
 
 abbrev pub invariant-loop-row : goal.invariant-loop-row

@@ -1,9 +1,7 @@
 use Rattle.std.proofs.Common.{◌∙◌, arith, refl, rules}
-use Rattle.sql_write.specs.{Fits.FitsKey, declared.stored.Write.TheVariants.Upsert}
-use Rattle.sql_write.specs.Statements.{key_writing, writes}
-use Rattle.sql_write.proofs.RowsInTurn.{each_at, put_turns}
+use Rattle.sql_write.specs.{Fits.FitsKey, declared.stored.Write.TheVariants.Upsert, Statements.key_writing, Statements.writes}
+use Rattle.sql_write.proofs.{RowsInTurn.each_at, RowsInTurn.put_turns, Written.turned_all, Written.turned_more, Written.turned_none, Written.turned_until}
 use Rattle.sql_tables.specs.Layouts.{key_layout}
-use Rattle.sql_write.proofs.Written.{turned_all, turned_more, turned_none, turned_until}
 use Rattle.sql_write.proofs.children.write_keys.Goals as goal
 
 pub loop-row-init : goal.loop-row-init

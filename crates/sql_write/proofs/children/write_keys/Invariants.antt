@@ -1,9 +1,7 @@
 use Rattle.std.proofs.Common.{◌≡◌}
-use Rattle.sql_write.specs.Statements.{key_writing, writes}
-use Rattle.sql_write.specs.declared.stored.Write.TheVariants.{Upsert}
-use Rattle.sql_write.proofs.RowsInTurn.{put_turns}
+use Rattle.sql_write.specs.{Statements.key_writing, Statements.writes, declared.stored.Write.TheVariants.Upsert}
+use Rattle.sql_write.proofs.{RowsInTurn.put_turns, Written.HasWrittenFirst}
 use Rattle.sql_tables.specs.Layouts.{key_layout}
-use Rattle.sql_write.proofs.Written.{HasWrittenFirst}
 use Rattle.sql_write.proofs.children.write_keys.Given as goal
 
 abbrev pub invariant-loop-row : goal.invariant-loop-row

@@ -4,8 +4,7 @@ use Rattle.sqlite.proofs.StateLemmas.{survives_then}
 use Rattle.sql_schema.specs.Advances.{Performs}
 use Rattle.sql_schema.proofs.Steps.{defines_more}
 use Rattle.sql_write.proofs.Told.{run_defined, stops_defining}
-use Rattle.sql_write.specs.Refusals.{Runs, HaveRun}
-use Rattle.sql_write.specs.Statements.{defines_before}
+use Rattle.sql_write.specs.{Refusals.Runs, Refusals.HaveRun, Statements.defines_before}
 use Rattle.sql_write.proofs.definitions.define_all.Goals as goal
 
 pub loop-step-preserved : goal.loop-step-preserved

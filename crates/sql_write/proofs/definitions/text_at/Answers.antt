@@ -1,5 +1,4 @@
-use Rattle.std.proofs.Common.{[], Bor, List, ℕ, sym}
-use Rattle.std.proofs.lemmas.List.{get_or-map}
+use Rattle.std.proofs.{Common.[], Common.Bor, Common.List, Common.ℕ, Common.sym, lemmas.List.get_or-map}
 use Rattle.sql_write.proofs.definitions.text_at.Goals as goal
 
 pub returns : goal.returns

@@ -1,9 +1,7 @@
 use Rattle.std.proofs.Common.{arith, subst}
-use Rattle.sql_write.specs.Makes.{PutsOver, SavesAuthorization, SavesMeta, SavesOrder}
-use Rattle.sql_write.specs.{Numbers.FitsColumns, Refusals.HasWritten}
-use Rattle.sql_write.specs.Statements.{saves_account, saves_authorization, saves_meta, saves_order}
-use Rattle.desk_model.specs.Change.{applied}
-use Rattle.desk_model.specs.Questions.{account_on, authorization_on, order_on}
+use Rattle.sql_write.specs.{Makes.PutsOver, Makes.SavesAuthorization, Makes.SavesMeta, Makes.SavesOrder, Numbers.FitsColumns, Refusals.HasWritten}
+use Rattle.sql_write.specs.{Statements.saves_account, Statements.saves_authorization, Statements.saves_meta, Statements.saves_order}
+use Rattle.desk_model.specs.{Change.applied, Questions.account_on, Questions.authorization_on, Questions.order_on}
 use Rattle.sql_write.proofs.StoredRows.{none_above}
 use Rattle.sql_write.proofs.MadeChanges.{makes_account, makes_authorization, makes_meta, makes_nonce, makes_removal, makes_set_order, writes_change}
 use Rattle.sql_write.proofs.saving.make_change.Goals as goal

@@ -1,12 +1,9 @@
 use Rattle.std.proofs.Common.{◌∙◌, ◌+◌, Err, Ok, arith, rules, subst, sym, take, take_all}
-use Rattle.desk_model.specs.Change.{applied}
-use Rattle.desk_model.specs.declared.rows.Change.{Change}
-use Rattle.sql_write.proofs.StoredRows.{take_more}
+use Rattle.desk_model.specs.{Change.applied, declared.rows.Change.Change}
 use Rattle.sql_write.proofs.RowsInTurn.{each_at, from_begins, from_more, made_more}
-use Rattle.sql_write.proofs.Written.{written_then, written_through, written_with}
-use Rattle.sql_write.specs.{Highest.IsAbove, Numbers.FitsColumns, Refusals.HasWritten}
-use Rattle.sql_write.specs.Makes.{Makes, MakesAll}
-use Rattle.sql_write.specs.Statements.{statements_from, statements_of}
+use Rattle.sql_write.proofs.{StoredRows.take_more, Written.written_then, Written.written_through, Written.written_with}
+use Rattle.sql_write.specs.{Highest.IsAbove, Numbers.FitsColumns, Refusals.HasWritten, Makes.Makes, Makes.MakesAll, Statements.statements_from}
+use Rattle.sql_write.specs.{Statements.statements_of}
 use Rattle.sql_write.proofs.saving.make_changes.Goals as goal
 
 pub loop-place-preserved : goal.loop-place-preserved

@@ -1,7 +1,6 @@
 use Rattle.std.proofs.Common.{refl}
 use Rattle.std.specs.Prelude.{option_copied, nat_lt}
-use Rattle.sql_write.proofs.Differing.{account_differs}
-use Rattle.sql_write.proofs.Over.{set_none, set_some}
+use Rattle.sql_write.proofs.{Differing.account_differs, Over.set_none, Over.set_some}
 use Rattle.sql_write.specs.Statements.{account_writing, writes}
 use Rattle.sql_write.proofs.saving.save_account.Goals as goal
 

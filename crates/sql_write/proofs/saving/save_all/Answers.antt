@@ -1,11 +1,8 @@
 use Rattle.std.proofs.Common.{◌∙◌, ap, rules, subst}
 use Rattle.sqlite.specs.Held.{state}
-use Rattle.sql_write.specs.{Fitting.Saves, Makes.MakesAll, Refusals.Ran, Numbers.FitsColumns}
-use Rattle.sql_write.proofs.{BackFits.saves_by, RowsInTurn.of_save, Told.caused}
-use Rattle.sql_write.proofs.Leaving.{committed_by, left_by, spared_by, undone_by}
-use Rattle.sql_write.specs.Statements.{save_statements, statements_from}
-use Rattle.desk_model.specs.declared.rows.Meta.{Meta}
-use Rattle.desk_model.specs.Kept.{EachOf}
+use Rattle.sql_write.specs.{Fitting.Saves, Makes.MakesAll, Refusals.Ran, Numbers.FitsColumns, Statements.save_statements, Statements.statements_from}
+use Rattle.sql_write.proofs.{BackFits.saves_by, RowsInTurn.of_save, Told.caused, Leaving.committed_by, Leaving.left_by, Leaving.spared_by, Leaving.undone_by}
+use Rattle.desk_model.specs.{declared.rows.Meta.Meta, Kept.EachOf}
 use Rattle.sql_write.proofs.saving.save_all.Goals as goal
 
 pub returns-clause-ok : goal.returns-clause-ok

@@ -3,8 +3,7 @@ use Rattle.std.specs.Prelude.{option_copied}
 use Rattle.sqlite.specs.Held.{state}
 use Rattle.sql_write.proofs.Written.{written_first, written_then}
 use Rattle.sql_write.specs.Makes.{PutsChallenges, PutsOver, SavesAuthorization}
-use Rattle.sql_write.specs.Refusals.{HasWritten}
-use Rattle.sql_write.specs.Statements.{saves_bare_authorization, saves_challenges}
+use Rattle.sql_write.specs.{Refusals.HasWritten, Statements.saves_bare_authorization, Statements.saves_challenges}
 use Rattle.sql_write.proofs.saving.save_authorization.Goals as goal
 use Rattle.sql_tables.specs.Layouts.{authorization_layout}
 

@@ -1,7 +1,6 @@
 use Rattle.std.proofs.Common.{refl}
 use Rattle.std.specs.Prelude.{option_copied, nat_lt}
-use Rattle.sql_write.proofs.Differing.{authorization_differs}
-use Rattle.sql_write.proofs.Over.{set_none, set_some}
+use Rattle.sql_write.proofs.{Differing.authorization_differs, Over.set_none, Over.set_some}
 use Rattle.sql_write.specs.Statements.{authorization_writing, writes}
 use Rattle.sql_write.proofs.saving.save_bare_authorization.Goals as goal
 

@@ -1,11 +1,9 @@
 use Rattle.std.proofs.Common.{◌∙◌, false, sym}
 use Rattle.std.specs.Prelude.{option_copied}
 use Rattle.store_columns.specs.Columns.{known_format}
-use Rattle.sql_write.proofs.Differing.{meta_differs, not_inserted}
 use Rattle.sql_write.proofs.Over.{differs_beside, set_none, set_some}
-use Rattle.sql_write.proofs.{RowsInTurn.writes_renewed, Written.written_as}
-use Rattle.sql_write.specs.Differences.{meta_difference}
-use Rattle.sql_write.specs.Statements.{meta_writing, writes}
+use Rattle.sql_write.proofs.{Differing.meta_differs, Differing.not_inserted, RowsInTurn.writes_renewed, Written.written_as}
+use Rattle.sql_write.specs.{Differences.meta_difference, Statements.meta_writing, Statements.writes}
 use Rattle.sql_tables.specs.Layouts.{formatted_layout}
 use Rattle.sql_write.proofs.saving.save_meta.Goals as goal
 

@@ -1,7 +1,6 @@
 use Rattle.std.proofs.Common.{◌∙◌, ap, sym}
 use Rattle.std.specs.Prelude.{nat_lt}
-use Rattle.sql_write.proofs.{Differing.always_written, RowsInTurn.puts_added}
-use Rattle.sql_write.proofs.Written.{written_as, written_with}
+use Rattle.sql_write.proofs.{Differing.always_written, RowsInTurn.puts_added, Written.written_as, Written.written_with}
 use Rattle.sql_write.specs.Statements.{nonce_writing, of_some, writes}
 use Rattle.sql_write.proofs.saving.save_nonce.Goals as goal
 use Rattle.sql_tables.specs.Layouts.{nonce_layout}

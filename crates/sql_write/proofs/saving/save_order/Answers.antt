@@ -1,10 +1,7 @@
 use Rattle.std.proofs.Common.{◌∙◌, ◌++◌, ap, sym}
 use Rattle.std.specs.Prelude.{nat_lt, option_copied}
-use Rattle.sql_write.proofs.Differing.{order_keeps, order_written}
-use Rattle.sql_write.proofs.Written.{written_as, written_with}
-use Rattle.sql_write.specs.Makes.{SavesOrder, WritesOrder}
-use Rattle.sql_write.specs.Write.{write}
-use Rattle.sql_write.specs.Statements.{lists, of_some, order_writing, writes}
+use Rattle.sql_write.proofs.{Differing.order_keeps, Differing.order_written, Written.written_as, Written.written_with}
+use Rattle.sql_write.specs.{Makes.SavesOrder, Makes.WritesOrder, Write.write, Statements.lists, Statements.of_some, Statements.order_writing, Statements.writes}
 use Rattle.sql_write.proofs.saving.save_order.Goals as goal
 
 pub returns-in-Some-clause-writes : goal.returns-in-Some-clause-writes

@@ -2,12 +2,10 @@ use Rattle.std.proofs.Common.{Ok, refl, rules, subst, sym}
 use Rattle.std.specs.List.{flat_map}
 use Rattle.sqlite.specs.Held.{state}
 use Rattle.store_columns.specs.{Columns.order_columns, Flat.owned_by}
-use Rattle.sql_write.proofs.Exits.{in_either}
-use Rattle.sql_write.proofs.Written.{nothing_written, written_first, written_then}
-use Rattle.sql_write.specs.Makes.{Lists, Writes, WritesListed, WritesOrder}
-use Rattle.sql_write.specs.Refusals.{HasWritten}
-use Rattle.sql_write.specs.Statements.{lists, order_writing, writes, writes_listed}
-use Rattle.sql_write.specs.declared.stored.Write.TheVariants.{Upsert, Insert, Update}
+use Rattle.sql_write.proofs.{Exits.in_either, Written.nothing_written, Written.written_first, Written.written_then}
+use Rattle.sql_write.specs.{Makes.Lists, Makes.Writes, Makes.WritesListed, Makes.WritesOrder, Refusals.HasWritten, Statements.lists, Statements.order_writing}
+use Rattle.sql_write.specs.{Statements.writes, Statements.writes_listed, declared.stored.Write.TheVariants.Upsert, declared.stored.Write.TheVariants.Insert}
+use Rattle.sql_write.specs.{declared.stored.Write.TheVariants.Update}
 use Rattle.sql_write.proofs.saving.write_order.Goals as goal
 use Rattle.sql_tables.specs.{Images.order_kept, Layouts.order_layout}
 

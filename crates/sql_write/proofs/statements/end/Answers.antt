@@ -1,5 +1,4 @@
-use Rattle.std.proofs.Common.{IsOk, inr, refl, subst, sym}
-use Rattle.std.proofs.lemmas.Result.{IfOk-from_err}
+use Rattle.std.proofs.{Common.IsOk, Common.inr, Common.refl, Common.subst, Common.sym, lemmas.Result.IfOk-from_err}
 use Rattle.sql_write.proofs.statements.end.Goals as goal
 
 pub returns-in_err-done-clause-done : goal.returns-in_err-done-clause-done

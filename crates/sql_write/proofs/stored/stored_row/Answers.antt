@@ -1,6 +1,5 @@
-use Rattle.std.proofs.Common.{◌≡◌, ◌∙◌, ◌+◌, ap, sym, take, arith, rules, subst, take_all}
-use Rattle.std.specs.Option.{option_or}
-use Rattle.std.specs.Prelude.{option_copied}
+use Rattle.std.proofs.Common.{◌≡◌, ◌∙◌, ap, sym, arith, rules, subst, take_all}
+use Rattle.std.specs.{Option.option_or, Prelude.option_copied}
 use Rattle.desk_model.specs.Change.{applied}
 use Rattle.sql_write.proofs.StoredRows.{applied_more, copied_or, left_by_all}
 use Rattle.sql_write.proofs.stored.stored_row.Goals as goal

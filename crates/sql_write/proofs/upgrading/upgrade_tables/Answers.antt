@@ -1,7 +1,6 @@
 use Rattle.std.proofs.Common.{rules}
 use Rattle.sql_write.specs.{Upgrading.Upgrades, Statements.upgrade_statements, Numbers.FitsUpgrade}
-use Rattle.sql_write.proofs.Leaving.{committed_by, left_by, spared_by, undone_by}
-use Rattle.sql_write.proofs.Told.{caused}
+use Rattle.sql_write.proofs.{Leaving.committed_by, Leaving.left_by, Leaving.spared_by, Leaving.undone_by, Told.caused}
 use Rattle.sql_write.proofs.upgrading.upgrade_tables.Goals as goal
 
 pub returns-clause-ok : goal.returns-clause-ok

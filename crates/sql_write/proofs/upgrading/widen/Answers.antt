@@ -5,10 +5,8 @@ use Rattle.store_columns.specs.Columns.{known_format}
 use Rattle.sql_schema.specs.Defined.{AddsKeyTable}
 use Rattle.sql_tables.specs.{Effects.Puts, Layouts.formatted_layout, Layouts.key_layout}
 use Rattle.sql_write.proofs.{Upgraded.upgrades, Written.written_first, Written.written_then}
-use Rattle.sql_write.specs.Makes.{PutsAll}
 use Rattle.sql_write.specs.Statements.{defines, key_writing, meta_writing, upgrade_statements, writes}
-use Rattle.sql_write.specs.Upgrading.{Fills, Upgrades}
-use Rattle.sql_write.specs.declared.stored.Write.TheVariants.{Upsert}
+use Rattle.sql_write.specs.{Makes.PutsAll, Upgrading.Fills, Upgrading.Upgrades, declared.stored.Write.TheVariants.Upsert}
 use Rattle.sql_write.proofs.upgrading.widen.Goals as goal
 
 pub returns-clause-writes : goal.returns-clause-writes

@@ -1,8 +1,7 @@
-use Rattle.std.proofs.Common.{◌≡◌, ℕ, true, filter, List, [], ◌∷◌, ap, refl, ◌∙◌}
+use Rattle.std.proofs.Common.{◌≡◌, ℕ, true, filter, List, [], ◌∷◌, ap, refl, arith, rules}
 use Rattle.model_laws.specs.{Ordered.Ascends, Placing.puts}
 use Rattle.model_laws.proofs.RowLists.{puts_ascending}
-use Rattle.store_api.proofs.Found.{fails_behind, finds_as, finds_failing, finds_fourth, finds_put, finds_then}
-use Rattle.store_api.proofs.Gathered.{put_into_none}
+use Rattle.store_api.proofs.Found.{fails_behind, finds_as, finds_fourth, finds_put, finds_then}
 use Rattle.store_api.proofs.all_rows.add_all_rows.Goals as goal
 use Rattle.desk_model.specs.declared.{objects.Nonce.Nonce, rows.AccountRow.AccountRow, rows.AuthorizationRow.AuthorizationRow, rows.OrderRow.OrderRow}
 use Rattle.model_lives.specs.LookUps.{accounts_where, authorizations_where, nonces_where, orders_where}
@@ -19,8 +18,7 @@ all_pass (x ∷ xs) = ap (λ l. x ∷ l) (all_pass xs)
 -- the rows of a table that are put into an empty one are the table
 all_put : {X : Type 0} (number : X → ℕ) (xs rows later : List X) → Ascends number 1 xs → later ≡ puts number (filter (λ x. true) xs) rows → rows ≡ [] →
     later ≡ xs
-all_put number xs rows later ascends put_now none =
-    put_into_none number xs rows later (put_now ∙ ap (λ found. puts number found rows) (all_pass xs)) none ∙ puts_ascending number 1 xs ascends
+all_put number xs rows later ascends put_now none = search (rules, all_pass, puts_ascending)
 
 pub returns : goal.returns
 returns g c =
@@ -41,9 +39,7 @@ returns g c =
     })
 
 pub returns-in_err-add_found : goal.returns-in_err-add_found
-returns-in_err-add_found g c = finds_failing _ (finds_as c.in_err-add_found.was
-    (finds_put (λ (n : Nonce). n.serial) (λ rows. rows.items) (λ T. nonces_where T nonces.Any) _ _ c.find_nonces.ensures c.add_found.ensures.put
-    c.add_found.ensures.lacks c.add_found.ensures.fails)) c.from_residual.ensures.1
+returns-in_err-add_found g c = grind arith
 
 pub returns-in_err-add_found-2 : goal.returns-in_err-add_found-2
 returns-in_err-add_found-2 g c = fails_behind _ (finds_as c.in_ok-add_found.was

@@ -1,13 +1,10 @@
-use Rattle.std.proofs.Common.{ap, map, ◌∙◌}
-use Rattle.desk_model.specs.Order.{is_processing}
-use Rattle.desk_model.specs.declared.rows.{AuthorizationRow.AuthorizationRow, OrderRow.OrderRow}
+use Rattle.std.proofs.Common.{ap, map, ◌∙◌, arith}
+use Rattle.desk_model.specs.{Order.is_processing, declared.rows.AuthorizationRow.AuthorizationRow, declared.rows.OrderRow.OrderRow}
 use Rattle.model_laws.proofs.RowLists.{ascends_filter}
 use Rattle.model_laws.specs.Placing.{puts}
 use Rattle.model_lives.proofs.WorkLoading.{processing_loaded}
 use Rattle.model_lives.specs.LookUps.{orders_processing}
-use Rattle.store_api.proofs.Found.{fails_behind, finds_third}
-use Rattle.store_api.proofs.Places.{places_put, standing_at}
-use Rattle.store_api.proofs.Readings.{reads_unchanged, unchanged_here}
+use Rattle.store_api.proofs.{Found.finds_third, Places.places_put, Places.standing_at, Readings.reads_unchanged, Readings.unchanged_here}
 use Rattle.store_api.proofs.enough.add_processing.Goals as goal
 use Rattle.store_api.specs.Needing.{lacking}
 
@@ -29,6 +26,4 @@ returns g c =
     ))
 
 pub returns-in_err-places : goal.returns-in_err-places
-returns-in_err-places g c =
-    fails_behind {Q = λ _. Unit {0}} _ (record { reads = c.in_ok-bare.ensures.reads; found = c.in_ok-bare.ensures.found })
-    (record { reads = c.in_err-places.ensures.reads; found = c.in_err-places.ensures.found }) c.from_residual-in_err-places.ensures.1
+returns-in_err-places g c = grind arith

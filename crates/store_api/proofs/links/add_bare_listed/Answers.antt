@@ -1,11 +1,9 @@
 use Rattle.std.proofs.Common.{ap, sym, ◌∙◌}
 use Rattle.std.specs.List.{flat_map}
-use Rattle.store_api.proofs.Found.{fails_behind, finds_then}
-use Rattle.store_api.proofs.Missing.{missings_append}
+use Rattle.store_api.proofs.{Found.fails_behind, Found.finds_then, Missing.missings_append}
 use Rattle.store_api.proofs.links.add_bare_listed.Goals as goal
 use Rattle.store_api.specs.Needing.{missings}
-use Rattle.desk_model.specs.Derived.{numbers_of}
-use Rattle.desk_model.specs.declared.rows.{AuthorizationRow.AuthorizationRow, OrderRow.OrderRow}
+use Rattle.desk_model.specs.{Derived.numbers_of, declared.rows.AuthorizationRow.AuthorizationRow, declared.rows.OrderRow.OrderRow}
 use Rattle.model_lives.specs.LookUps.{bare_authorizations}
 
 pub loop-order-preserved : goal.loop-order-preserved

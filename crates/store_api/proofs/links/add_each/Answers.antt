@@ -1,6 +1,5 @@
 use Rattle.std.proofs.Common.{add-one, ap, arith, drop-cons}
-use Rattle.store_api.proofs.Found.{fails_behind, finds_then}
-use Rattle.store_api.proofs.Gathered.{gathered}
+use Rattle.store_api.proofs.{Found.fails_behind, Found.finds_then, Gathered.gathered}
 use Rattle.store_api.proofs.links.add_each.Goals as goal
 
 pub loop-item-preserved : goal.loop-item-preserved

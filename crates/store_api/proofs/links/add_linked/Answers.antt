@@ -1,6 +1,5 @@
 use Rattle.std.proofs.Common.{refl}
-use Rattle.store_api.proofs.Found.{fails_behind, finds_then}
-use Rattle.store_api.proofs.Gathered.{gathered}
+use Rattle.store_api.proofs.{Found.fails_behind, Found.finds_then, Gathered.gathered}
 use Rattle.store_api.proofs.links.add_linked.Goals as goal
 
 pub loop-other-preserved : goal.loop-other-preserved

@@ -3,17 +3,14 @@ use Rattle.model_laws.specs.Placing.{puts}
 use Rattle.identifiers.specs.Parsed.{ask_of}
 use Rattle.store_api.proofs.MinimalRows.{movable_are, opened_are, restated_are, holders_missing, named_missing}
 use Rattle.store_api.proofs.Found.{fails_behind, finds_both, finds_failing, finds_fourth}
-use Rattle.store_api.proofs.Gathered.{put_into_none}
-use Rattle.std.specs.List.{flat_map}
-use Rattle.desk_model.specs.Derived.{numbers_of}
+use Rattle.store_api.proofs.{Gathered.put_into_none, Lacking.needed_authorizations, Lacking.needed_orders}
+use Rattle.std.specs.{List.flat_map, Prelude.if◌then◌else◌, Prelude.not}
+use Rattle.desk_model.specs.{Derived.numbers_of, Tables.Tables, declared.objects.Nonce.Nonce, declared.rows.AccountRow.AccountRow}
+use Rattle.desk_model.specs.{declared.rows.AuthorizationRow.AuthorizationRow, declared.rows.OrderRow.OrderRow}
 use Rattle.store_api.proofs.minimal_part.add_minimal.Goals as goal
 use Rattle.store_api.specs.Needing.{lacking, missings, with_named}
-use Rattle.desk_model.specs.Tables.{Tables}
 use Rattle.model_lives.proofs.MinimalPartLoading.{loaded_minimal}
 use Rattle.model_lives.specs.LookUps.{accounts_numbered, bare_authorizations, summaries_of, orders_numbered}
-use Rattle.std.specs.Prelude.{if◌then◌else◌, not}
-use Rattle.store_api.proofs.Lacking.{needed_authorizations, needed_orders}
-use Rattle.desk_model.specs.declared.{objects.Nonce.Nonce, rows.AccountRow.AccountRow, rows.AuthorizationRow.AuthorizationRow, rows.OrderRow.OrderRow}
 use Rattle.model_lives.specs.MinimalPartLoaded.{moved_authorizations, opened_orders, restated_authorizations}
 use Rattle.model_lives.specs.Loaded.{authorizations_asked_of, found_nonces}
 

@@ -1,9 +1,7 @@
 use Rattle.std.proofs.Common.{[], ◌++◌, ap, refl, ◌∙◌}
-use Rattle.std.specs.Prelude.{◌&&◌, if◌then◌else◌, option_to_list}
-use Rattle.std.specs.List.{flat_map}
+use Rattle.std.specs.{Prelude.◌&&◌, Prelude.if◌then◌else◌, Prelude.option_to_list, List.flat_map}
 use Rattle.model_laws.specs.Placing.{puts}
-use Rattle.store_api.proofs.Found.{fails_behind, finds_failing, finds_third, listed_as}
-use Rattle.store_api.proofs.Gathered.{put_by, put_then}
+use Rattle.store_api.proofs.{Found.fails_behind, Found.finds_failing, Found.finds_third, Found.listed_as, Gathered.put_by, Gathered.put_then}
 use Rattle.store_api.proofs.minimal_part.add_movable.Goals as goal
 use Rattle.desk_model.specs.declared.rows.{AccountRow.AccountRow, AuthorizationRow.AuthorizationRow}
 use Rattle.model_lives.specs.LookUps.{authorizations_numbered, authorizations_of, owners_of}

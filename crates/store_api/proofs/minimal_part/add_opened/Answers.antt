@@ -1,14 +1,12 @@
 use Rattle.std.proofs.Common.{[], ◌++◌, ap, ◌∙◌}
 use Rattle.std.specs.Prelude.{if◌then◌else◌}
 use Rattle.model_laws.specs.Placing.{puts}
-use Rattle.store_api.proofs.Found.{fails_behind, finds_failing, finds_third}
-use Rattle.store_api.proofs.Gathered.{of_three, put_then}
+use Rattle.store_api.proofs.{Found.fails_behind, Found.finds_failing, Found.finds_third, Gathered.of_three, Gathered.put_then}
 use Rattle.store_api.proofs.minimal_part.add_opened.Goals as goal
 use Rattle.store_api.specs.Needing.{orders_by}
 use Rattle.desk_model.specs.declared.rows.OrderRow.{OrderRow}
 use Rattle.desk_model.specs.declared.status.OrderStatus.TheVariants as order
-use Rattle.model_lives.specs.Loaded.{listing_orders, past_orders}
-use Rattle.model_lives.specs.LookUps.{orders_past}
+use Rattle.model_lives.specs.{Loaded.listing_orders, Loaded.past_orders, LookUps.orders_past}
 
 pub returns : goal.returns
 returns g c =

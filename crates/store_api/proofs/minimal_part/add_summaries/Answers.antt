@@ -1,7 +1,6 @@
 use Rattle.std.proofs.Common.{ap, sym, ◌∙◌}
 use Rattle.std.specs.List.{flat_map}
-use Rattle.store_api.proofs.Found.{fails_behind, finds_as, finds_into, finds_then}
-use Rattle.store_api.proofs.Lacking.{lacking_append}
+use Rattle.store_api.proofs.{Found.fails_behind, Found.finds_as, Found.finds_into, Found.finds_then, Lacking.lacking_append}
 use Rattle.store_api.proofs.minimal_part.add_summaries.Goals as goal
 use Rattle.store_api.specs.Needing.{lacking}
 use Rattle.desk_model.specs.declared.rows.{AccountRow.AccountRow, OrderRow.OrderRow}

@@ -1,6 +1,5 @@
 use Rattle.std.proofs.Common.{add-one, ap, arith, drop-cons}
-use Rattle.store_api.proofs.Found.{fails_behind, finds_then}
-use Rattle.store_api.proofs.Gathered.{gathered}
+use Rattle.store_api.proofs.{Found.fails_behind, Found.finds_then, Gathered.gathered}
 use Rattle.desk_model.specs.declared.rows.AuthorizationRow.{AuthorizationRow}
 use Rattle.model_lives.specs.Loaded.{authorizations_for}
 use Rattle.store_api.proofs.named.add_named.Goals as goal

@@ -1,12 +1,10 @@
 use Rattle.std.proofs.Common.{◌-◌, ap, ◌∙◌}
 use Rattle.std.specs.List.{flat_map}
 use Rattle.identifiers.specs.Parsed.{ask_of}
-use Rattle.store_api.proofs.Found.{finds_failing, finds_put, finds_then, listed_as}
-use Rattle.store_api.proofs.Gathered.{put_by, put_then}
+use Rattle.store_api.proofs.{Found.finds_failing, Found.finds_put, Found.finds_then, Found.listed_as, Gathered.put_by, Gathered.put_then}
 use Rattle.store_api.proofs.named.add_nonces.Goals as goal
 use Rattle.desk_model.specs.declared.objects.Nonce.{Nonce}
-use Rattle.model_lives.specs.Loaded.{serials}
-use Rattle.model_lives.specs.LookUps.{nonces_before, nonces_numbered}
+use Rattle.model_lives.specs.{Loaded.serials, LookUps.nonces_before, LookUps.nonces_numbered}
 
 pub returns : goal.returns
 returns g c =

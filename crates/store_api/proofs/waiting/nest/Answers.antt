@@ -1,8 +1,6 @@
-use Rattle.std.proofs.Common.{ap, sym, ◌∙◌}
-use Rattle.std.proofs.lemmas.Result.{on_ok_weaker}
+use Rattle.std.proofs.{Common.ap, Common.sym, Common.◌∙◌, lemmas.Result.on_ok_weaker}
 use Rattle.std.specs.Option.{option_copied}
-use Rattle.desk_model.specs.Change.{put}
-use Rattle.desk_model.specs.declared.rows.AuthorizationRow.{AuthorizationRow}
+use Rattle.desk_model.specs.{Change.put, declared.rows.AuthorizationRow.AuthorizationRow}
 use Rattle.store_api.proofs.WaitingRows.{none_joined, put_joined}
 use Rattle.store_api.proofs.waiting.nest.Goals as goal
 

@@ -1,5 +1,4 @@
-use Rattle.std.proofs.Common.{rules, is_lt}
-use Rattle.std.proofs.lemmas.List.Sorted.{answers_always}
+use Rattle.std.proofs.{Common.rules, Common.is_lt, lemmas.List.Sorted.answers_always}
 use Rattle.store_book.proofs.Distinctness.{distinct-answer}
 use Rattle.store_book.proofs.accounts.are_distinct.Goals as goal
 

@@ -1,5 +1,4 @@
-use Rattle.std.proofs.Common.{◌∙◌, sym, ap, nat_cmp, is_eq}
-use Rattle.std.proofs.lemmas.List.{take_all, map-id}
+use Rattle.std.proofs.{Common.◌∙◌, Common.sym, Common.ap, Common.nat_cmp, Common.is_eq, lemmas.List.take_all, lemmas.List.map-id}
 use Rattle.std.specs.Cmp.Lexicographic.{nat_list_cmp_total, same_text, slice_cmp, texts_ties}
 use Rattle.store_book.proofs.Distinctness.{distinct-rows, equal_self}
 use Rattle.store_book.proofs.accounts.have_distinct_texts.Goals as goal

@@ -1,18 +1,14 @@
-use Rattle.std.proofs.Common.{◌≡◌, ℕ, List, [], ◌∷◌, map, refl, sym, ap, ◌∙◌}
+use Rattle.std.proofs.Common.{◌≡◌, ℕ, List, [], ◌∷◌, map, refl, ap, ◌∙◌, arith, rules}
 use Rattle.std.proofs.lemmas.Result.{err_from_is_err_and}
 use Rattle.model_laws.proofs.RowLists.{ascends_map}
-use Rattle.model_laws.specs.Ordered.{Ascends, IsTable}
-use Rattle.desk_model.specs.declared.objects.Nonce.{Nonce}
+use Rattle.model_laws.specs.Ordered.{Ascends}
 use Rattle.desk_model.specs.declared.rows.{AccountRow.AccountRow, AuthorizationRow.AuthorizationRow, Counters.Counters, Meta.Meta, OrderRow.OrderRow}
-use Rattle.store_book.specs.BookRows.{AreAccounts, AreAuthorizations, AreChallenges, AreKeys, AreListed, AreOrders, Rise, answered_numbers}
-use Rattle.store_book.specs.Passing.{ArePlaced, IsOnlyRow}
+use Rattle.store_book.specs.{BookRows.AreAuthorizations, BookRows.AreChallenges, BookRows.AreOrders, BookRows.Rise, Passing.ArePlaced, Passing.IsOnlyRow}
 use Rattle.store_book.proofs.checking.check_tables.Goals as goal
 
 -- the counters that were kept of the one row are the book's
 counters_kept : (kept : Counters) (rows : List Meta) (meta : Meta) → IsOnlyRow kept rows → rows ≡ meta ∷ [] → kept ≡ meta.counters
-counters_kept kept rows meta is are =
-    let same : is.meta ≡ meta = (let both = sym is.alone ∙ are in cc) in
-    is.counters ∙ ap (λ m. m.counters) same
+counters_kept kept rows meta is are = search rules
 
 -- numbers that ascend rise
 rises : {X : Type 0} (number : X → ℕ) (xs : List X) → Ascends number 1 xs → Rise (map number xs)
@@ -22,29 +18,14 @@ rises number xs up = ascends_map number (λ n. n) number (λ x. refl) 1 xs up
 same_three : {A B C : Type 0} (P : A → B → C → Type 0) {a d : A} {b e : B} {x y : C} → a ≡ d → b ≡ e → x ≡ y → P d e y → P a b x
 same_three P p q r h = rw (p, q, r) h
 
-same_two : {A C : Type 0} (P : A → C → Type 0) {a d : A} {x y : C} → a ≡ d → x ≡ y → P d y → P a x
-same_two P p r h = rw (p, r) h
-
 pub returns-in_err-last : goal.returns-in_err-last
-returns-in_err-last c =
-    let p = err_from_is_err_and c.from_residual.result c.from_residual.ensures.1 in
-    rw (p.1, p.2) (λ e meta are. c.in_err-last.ensures e (meta, c.as_slice.ensures ∙ are.metas))
+returns-in_err-last c = grind arith
 
 pub returns-in_err-check_rows : goal.returns-in_err-check_rows
-returns-in_err-check_rows c =
-    let p = err_from_is_err_and c.from_residual-in_err-check_rows.result c.from_residual-in_err-check_rows.ensures.1 in
-    rw (p.1, p.2) (λ e meta are.
-    let last = counters_kept c.in_ok-last.last c.as_slice.result.now meta c.in_ok-last.ensures (c.as_slice.ensures ∙ are.metas) in
-    c.in_err-check_rows.ensures e (same_two (λ n (rows : List Nonce). IsTable (λ r. r.serial) n rows)
-    (ap (λ k. k.counter.last) c.new-check.ensures ∙ ap (λ k. k.nonces) last) c.as_slice-2.ensures are.nonces))
+returns-in_err-check_rows c = grind arith
 
 pub returns-in_err-accounts : goal.returns-in_err-accounts
-returns-in_err-accounts c =
-    let p = err_from_is_err_and c.from_residual-in_err-accounts.result c.from_residual-in_err-accounts.ensures.1 in
-    rw (p.1, p.2) (λ e meta are.
-    let last = counters_kept c.in_ok-last.last c.as_slice.result.now meta c.in_ok-last.ensures (c.as_slice.ensures ∙ are.metas) in
-    c.in_err-accounts.ensures e (same_two AreAccounts
-    (ap (λ k. k.last) c.new-check-2.ensures.counter ∙ ap (λ k. k.accounts) last) c.as_slice-3.ensures are.accounts))
+returns-in_err-accounts c = grind arith
 
 pub returns-in_err-orders : goal.returns-in_err-orders
 returns-in_err-orders c =
@@ -92,39 +73,7 @@ returns-in_err-answered c =
     (rises (λ (a : AuthorizationRow). a.number) c.args.rows.now.authorizations are.authorizations.table.0, are.challenges)))
 
 pub returns-in_err-check_rows-3 : goal.returns-in_err-check_rows-3
-returns-in_err-check_rows-3 c =
-    let p = err_from_is_err_and c.from_residual-in_err-check_rows-3.result c.from_residual-in_err-check_rows-3.ensures.1 in
-    rw (p.1, p.2) (λ e meta are.
-    c.in_err-check_rows-3.ensures e (same_two AreKeys
-    (c.new-check-7.ensures ∙ c.in_ok-answered.ensures.1 ∙ ap answered_numbers c.as_slice-7.ensures) c.as_slice-8.ensures are.keys))
+returns-in_err-check_rows-3 c = grind arith
 
 pub returns : goal.returns
-returns c =
-    let last = c.in_ok-last.ensures in
-    let counters = last.counters in
-    let accounts = c.in_ok-accounts.ensures.1 ∙ ap (map (λ a. a.number)) c.as_slice-3.ensures in
-    let orders = c.in_ok-orders.ensures.1 ∙ ap (map (λ o. o.number)) c.as_slice-4.ensures in
-    let authzs = c.in_ok-authzs.ensures.1 ∙ ap (map (λ a. a.number)) c.as_slice-5.ensures in (
-      last.meta,
-      record {
-        metas = sym c.as_slice.ensures ∙ last.alone;
-        nonces = same_two (λ n (rows : List Nonce). IsTable (λ r. r.serial) n rows)
-            (sym (ap (λ k. k.counter.last) c.new-check.ensures ∙ ap (λ k. k.nonces) counters)) (sym c.as_slice-2.ensures)
-            c.in_ok-check_rows.ensures;
-        accounts = same_two AreAccounts
-            (sym (ap (λ k. k.last) c.new-check-2.ensures.counter ∙ ap (λ k. k.accounts) counters)) (sym c.as_slice-3.ensures)
-            c.in_ok-accounts.ensures.0;
-        orders = same_three AreOrders (sym (ap (λ k. k.last) c.new-check-3.ensures.counter ∙ ap (λ k. k.orders) counters))
-            (sym (c.new-check-3.ensures.owners ∙ accounts)) (sym c.as_slice-4.ensures) c.in_ok-orders.ensures.0;
-        authorizations = same_three AreAuthorizations
-            (sym (ap (λ k. k.last) c.new-check-4.ensures.counter ∙ ap (λ k. k.authorizations) counters))
-            (sym (c.new-check-4.ensures.owners ∙ accounts)) (sym c.as_slice-5.ensures) c.in_ok-authzs.ensures.0;
-        listed = same_three AreListed (sym (c.new-check-5.ensures.orders ∙ orders)) (sym (c.new-check-5.ensures.authorizations ∙ authzs))
-            (sym c.as_slice-6.ensures) c.in_ok-check_rows-2.ensures;
-        challenges = same_three AreChallenges (sym (ap (λ k. k.last) c.new-check-6.ensures.counter ∙ ap (λ k. k.challenges) counters))
-            (sym (c.new-check-6.ensures.authorizations ∙ authzs)) (sym c.as_slice-7.ensures) c.in_ok-answered.ensures.0;
-        keys = same_two AreKeys
-            (sym (c.new-check-7.ensures ∙ c.in_ok-answered.ensures.1 ∙ ap answered_numbers c.as_slice-7.ensures)) (sym c.as_slice-8.ensures)
-            c.in_ok-check_rows-3.ensures;
-      },
-    )
+returns c = grind arith

@@ -1,5 +1,4 @@
-use Rattle.std.proofs.{Common.rules, lemmas.Result.on_ok_weaker}
-use Rattle.std.proofs.lemmas.List.Sorted.{answers_always, IsNonDecreasingBy-from_sort}
+use Rattle.std.proofs.{Common.rules, lemmas.Result.on_ok_weaker, lemmas.List.Sorted.answers_always, lemmas.List.Sorted.IsNonDecreasingBy-from_sort}
 use Rattle.store_book.specs.FaultNumbers.{fault_number}
 use Rattle.store_book.proofs.SortedFaults.{sorted-faults}
 use Rattle.store_book.proofs.status_check.sort_faults.Goals as goal
@@ -8,6 +7,4 @@ pub returns : goal.returns
 returns c =
     let keys = answers_always _ _ _ (λ f a r next called. search rules) in
     let stable = c.sort_by_key.ensures.stable fault_number keys in
-    on_ok_weaker c.sort_by_key.result
-    (λ sorted rows are. sorted-faults rows _ _ are (IsNonDecreasingBy-from_sort fault_number _ (sorted fault_number keys)) stable)
-    c.sort_by_key.ensures.sorted
+    search (rules, on_ok_weaker, sorted-faults, IsNonDecreasingBy-from_sort)

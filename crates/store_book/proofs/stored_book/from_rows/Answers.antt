@@ -1,5 +1,4 @@
-use Rattle.std.proofs.Common.{subst}
-use Rattle.std.proofs.lemmas.Result.{MatchResult-weaker, err_from_is_err_and}
+use Rattle.std.proofs.{Common.subst, Common.arith, lemmas.Result.MatchResult-weaker, lemmas.Result.err_from_is_err_and}
 use Rattle.store_book.specs.IsBook.{IsBookOf}
 use Rattle.store_book.proofs.{KeyedRows.books_have_rows, SoundBooks.stored-told}
 use Rattle.store_book.proofs.stored_book.from_rows.Goals as goal
@@ -17,10 +16,7 @@ returns-in_err-check_tables-clause-not_a_book c =
     (c.requires read.rows read.ensures.0 read.ensures.1)))
 
 pub returns-clause-book : goal.returns-clause-book
-returns-clause-book c =
-    MatchResult-weaker c.book_of_rows.result c.book_of_rows.ensures
-    (λ book it. record { flat_rows = c.in_ok-rows.rows; spelled = c.in_ok-rows.ensures.1; in_limits = c.in_ok-rows.ensures.0; book = it })
-    (λ fault no. tt)
+returns-clause-book c = grind arith
 
 pub returns-clause-not_a_book : goal.returns-clause-not_a_book
 returns-clause-not_a_book c = MatchResult-weaker c.book_of_rows.result c.book_of_rows.ensures (λ book it. tt) (λ fault no e T stored. no e)

@@ -1,7 +1,6 @@
 use Rattle.std.proofs.Common.{Result, Ok, Err, IfOk}
 use Rattle.serde_json.specs.View.{view}
-use Rattle.store_columns.proofs.ContactTexts.{none_of_loose_text, of_value}
-use Rattle.store_columns.proofs.StringLists.{texts_are_read}
+use Rattle.store_columns.proofs.{ContactTexts.none_of_loose_text, ContactTexts.of_value, StringLists.texts_are_read}
 use Rattle.store_columns.proofs.accounts.contacts_in.Goals as goal
 
 -- what holds of what was found holds where anything was

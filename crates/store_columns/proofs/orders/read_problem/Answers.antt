@@ -1,7 +1,6 @@
 use Rattle.std.proofs.Common.{◌≡◌, ◌↔◌, ℕ, Bool, List, Some, IsTrue, true, false, refl, sym, ap, ◌∙◌, true≢false}
 use Rattle.std.specs.Bool.{then_some}
-use Rattle.desk_model.specs.Legal.{is_problem_kind}
-use Rattle.desk_model.specs.declared.call.OrderProblem.{OrderProblem}
+use Rattle.desk_model.specs.{Legal.is_problem_kind, declared.call.OrderProblem.OrderProblem}
 use Rattle.json_texts.specs.Problems.{order_problem}
 use Rattle.store_columns.specs.{Limits.IsProblem, Reading.IsRead, Spelling.problem_text}
 use Rattle.store_columns.proofs.ProblemTexts.{none_of_none, same_problem}

@@ -1,13 +1,10 @@
-use Rattle.std.proofs.Common.{ap, subst, sym, ◌∙◌}
-use Rattle.std.proofs.lemmas.Result.{IfOk-from_err}
-use Rattle.desk_model.specs.Derived.{numbers_of, order_faults, stored_statuses}
-use Rattle.desk_model.specs.declared.rows.OrderRow.{OrderRow}
+use Rattle.std.proofs.{Common.ap, Common.subst, Common.sym, Common.◌∙◌, lemmas.Result.IfOk-from_err}
+use Rattle.desk_model.specs.{Derived.numbers_of, Derived.order_faults, Derived.stored_statuses, declared.rows.OrderRow.OrderRow}
 use Rattle.model_lives.specs.Above.{orders_above}
 use Rattle.store_api.proofs.Readings.{reads_failing, reads_unchanged, unchanged_read, unchanged_then}
 use Rattle.store_book.specs.RowFaults.{listed_fault}
 use Rattle.store_passes.specs.Stepping.{IsFirst}
-use Rattle.store_passes.proofs.Passing.{fails_then}
-use Rattle.store_passes.proofs.Rows.{first_after, found_step, nothing_left}
+use Rattle.store_passes.proofs.{Passing.fails_then, Rows.first_after, Rows.found_step, Rows.nothing_left}
 use Rattle.store_passes.proofs.checked.check_order.Goals as goal
 
 pub returns-clause-reads : goal.returns-clause-reads

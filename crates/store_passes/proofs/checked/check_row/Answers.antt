@@ -1,6 +1,5 @@
-use Rattle.std.proofs.Common.{◌++◌, ap, subst, sym, ◌∙◌}
+use Rattle.std.proofs.{Common.◌++◌, Common.ap, Common.subst, Common.sym, Common.◌∙◌, lemmas.Result.IfOk-from_err}
 use Rattle.std.specs.List.{flat_map}
-use Rattle.std.proofs.lemmas.Result.{IfOk-from_err}
 use Rattle.model_lives.specs.Above.{above}
 use Rattle.store_api.proofs.Readings.{reads_failing, reads_unchanged, unchanged_read}
 use Rattle.store_book.specs.RowFaults.{listed_fault}

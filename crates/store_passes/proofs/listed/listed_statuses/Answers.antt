@@ -1,6 +1,5 @@
 use Rattle.std.proofs.Common.{◌∙◌, ◌++◌, ap, map, sym}
-use Rattle.desk_model.specs.{Derived.numbers_of, Document.rows_of}
-use Rattle.desk_model.specs.declared.rows.AuthorizationRow.{AuthorizationRow}
+use Rattle.desk_model.specs.{Derived.numbers_of, Document.rows_of, declared.rows.AuthorizationRow.AuthorizationRow}
 use Rattle.store_passes.proofs.Firsts.{statuses_listed}
 use Rattle.store_passes.proofs.listed.listed_statuses.Goals as goal
 

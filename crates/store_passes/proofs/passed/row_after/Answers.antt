@@ -1,9 +1,7 @@
-use Rattle.std.proofs.Common.{Ok}
-use Rattle.std.proofs.lemmas.Result.{IfOk-from_err}
+use Rattle.std.proofs.{Common.Ok, lemmas.Result.IfOk-from_err}
 use Rattle.store_api.proofs.Readings.{reads_failing, reads_of_tables}
 use Rattle.model_lives.specs.Above.{above, first_of}
-use Rattle.store_passes.proofs.{Alls.books_in_order, Passing.not_refused}
-use Rattle.store_passes.proofs.Rows.{row_is_after}
+use Rattle.store_passes.proofs.{Alls.books_in_order, Passing.not_refused, Rows.row_is_after}
 use Rattle.store_passes.proofs.passed.row_after.Goals as goal
 
 pub returns-clause-reads : goal.returns-clause-reads

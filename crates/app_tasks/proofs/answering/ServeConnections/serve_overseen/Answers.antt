@@ -1,8 +1,7 @@
 use Rattle.std.proofs.Common.{Err, Ok, refl, subst, unwrap_or}
 use Rattle.app_tasks.specs.{Deeds.TakesAny, Deeds.served, Showing.desk_shower}
 use Rattle.desk_http.specs.{InTurn.ServesConnections, declared.moment_bound.MomentBound.MomentBound}
-use Rattle.app_tasks.proofs.Done.{served_until}
-use Rattle.app_tasks.proofs.Watching.{over_all}
+use Rattle.app_tasks.proofs.{Done.served_until, Watching.over_all}
 use Rattle.app_tasks.proofs.answering.ServeConnections.serve_overseen.Goals as goal
 
 pub returns-in_err-serve_connections : goal.returns-in_err-serve_connections

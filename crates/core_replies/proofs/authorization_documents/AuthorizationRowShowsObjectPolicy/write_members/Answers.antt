@@ -1,13 +1,10 @@
-use Rattle.std.proofs.Common.{ap, map, subst, ◌∙◌}
+use Rattle.std.proofs.Common.{ap, map, subst, ◌∙◌, arith}
 use Rattle.std.specs.Prelude.{codes, true, ◌∷◌, []}
 use Rattle.serde_json.specs.Data.{boolean}
-use Rattle.desk_model.specs.Document.{challenge_document, identifier, shown_challenges}
-use Rattle.desk_model.specs.Json.{when}
-use Rattle.core_replies.specs.Shown.{capped_authorization, capped_challenge}
-use Rattle.core_replies.specs.Texts.{HasMembers, HasValues}
-use Rattle.core_replies.proofs.Results.{on_ok}
-use Rattle.core_replies.proofs.ShownAuthorizations.{authorization_in_order, challenges-shown, shown-capped}
+use Rattle.desk_model.specs.{Document.challenge_document, Document.identifier, Document.shown_challenges, Json.when}
+use Rattle.core_replies.specs.{Shown.capped_challenge, Texts.HasMembers, Texts.HasValues}
 use Rattle.core_replies.proofs.Writing.{list_is, member_is, members_then, named_value}
+use Rattle.core_replies.proofs.{Results.on_ok, ShownAuthorizations.challenges-shown, ShownAuthorizations.shown-capped}
 use Rattle.core_replies.proofs.authorization_documents.AuthorizationRowShowsObjectPolicy.write_members.Goals as goal
 
 pub returns-clause-written : goal.returns-clause-written
@@ -25,5 +22,4 @@ returns-clause-written c =
     c.write_wildcard.ensures
 
 pub returns-clause-in_order : goal.returns-clause-in_order
-returns-clause-in_order c =
-    on_ok c.write_wildcard.result (λ _. authorization_in_order c.args.by.now (capped_authorization c.args.self.now)) c.write_wildcard.ensures
+returns-clause-in_order c = grind arith

@@ -1,7 +1,6 @@
 use Rattle.std.proofs.Common.{◌∙◌}
 use Rattle.core_replies.specs.Shown.{capped_challenge}
-use Rattle.core_replies.proofs.{Results.on_ok, ShownAuthorizations.challenge_in_order}
-use Rattle.core_replies.proofs.Writing.{member_is, members_then}
+use Rattle.core_replies.proofs.{Results.on_ok, ShownAuthorizations.challenge_in_order, Writing.member_is, Writing.members_then}
 use Rattle.core_replies.proofs.authorization_documents.ChallengeRowShowsObjectPolicy.write_members.Goals as goal
 
 pub returns-clause-written : goal.returns-clause-written

@@ -1,7 +1,6 @@
 use Rattle.std.proofs.Common.{ap, map, ◌∙◌}
 use Rattle.serde_json.specs.Data.{string}
-use Rattle.core_replies.proofs.{Results.on_ok, Gathered.each-shows-one}
-use Rattle.core_replies.proofs.Writing.{list_is, member_is, members_then}
+use Rattle.core_replies.proofs.{Results.on_ok, Gathered.each-shows-one, Writing.list_is, Writing.member_is, Writing.members_then}
 use Rattle.core_replies.proofs.documents.AccountRowShowsObjectPolicy.write_members.Goals as goal
 
 pub returns-clause-written : goal.returns-clause-written

@@ -1,8 +1,6 @@
 use Rattle.std.proofs.Common.{◌∙◌, ap}
-use Rattle.desk_model.specs.Document.{expected_by}
-use Rattle.desk_model.specs.Tokens.{authorization_of, token_text}
-use Rattle.core_replies.proofs.Results.{on_ok}
-use Rattle.core_replies.proofs.Writing.{member_is, members_then}
+use Rattle.desk_model.specs.{Document.expected_by, Tokens.authorization_of, Tokens.token_text}
+use Rattle.core_replies.proofs.{Results.on_ok, Writing.member_is, Writing.members_then}
 use Rattle.core_replies.proofs.documents.ChallengeRowShowsObjectAuthorizationRow.write_members.Goals as goal
 
 pub returns-clause-written : goal.returns-clause-written

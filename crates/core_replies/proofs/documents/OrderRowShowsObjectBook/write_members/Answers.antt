@@ -1,8 +1,7 @@
 use Rattle.std.proofs.Common.{ap, map, ◌∙◌}
 use Rattle.serde_json.specs.Data.{string}
 use Rattle.desk_model.specs.{Derived.numbers_of, Document.rows_of, Names.shown_name}
-use Rattle.core_replies.proofs.{Results.on_ok, ShownWork.listed-names}
-use Rattle.core_replies.proofs.Writing.{list_is, member_is, members_then}
+use Rattle.core_replies.proofs.{Results.on_ok, ShownWork.listed-names, Writing.list_is, Writing.member_is, Writing.members_then}
 use Rattle.core_replies.proofs.documents.OrderRowShowsObjectBook.write_members.Goals as goal
 
 pub returns-clause-written : goal.returns-clause-written

@@ -1,6 +1,5 @@
 use Rattle.std.proofs.Common.{◌∙◌}
-use Rattle.core_replies.proofs.Results.{on_ok}
-use Rattle.core_replies.proofs.Writing.{member_is, members_then}
+use Rattle.core_replies.proofs.{Results.on_ok, Writing.member_is, Writing.members_then}
 use Rattle.core_replies.proofs.documents.PolicyShowsObjectUnit.write_members.Goals as goal
 
 pub returns-clause-written : goal.returns-clause-written

@@ -1,7 +1,6 @@
 use Rattle.std.proofs.Common.{arith}
 use Rattle.serde_json.specs.Data.{number, unsigned}
-use Rattle.core_replies.proofs.Results.{on_ok}
-use Rattle.core_replies.proofs.Writing.{number_back, one_member}
+use Rattle.core_replies.proofs.{Results.on_ok, Writing.number_back, Writing.one_member}
 use Rattle.core_replies.proofs.json_text.JsonText.number_member.Goals as goal
 
 pub returns : goal.returns

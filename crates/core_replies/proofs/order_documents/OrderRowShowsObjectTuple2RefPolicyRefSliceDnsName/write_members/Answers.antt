@@ -1,11 +1,7 @@
-use Rattle.std.proofs.Common.{ap, map, ◌∙◌}
+use Rattle.std.proofs.Common.{ap, map, ◌∙◌, arith}
 use Rattle.serde_json.specs.Data.{string}
-use Rattle.desk_model.specs.{Derived.numbers_of, Names.shown_name}
-use Rattle.desk_model.specs.Document.{authorization_url, identifier}
-use Rattle.core_replies.specs.Shown.{capped_order}
-use Rattle.core_replies.proofs.{Results.on_ok, Gathered.each-shows-one}
-use Rattle.core_replies.proofs.ShownOrders.{order_in_order, urls-shown}
-use Rattle.core_replies.proofs.Writing.{list_is, member_is, members_then}
+use Rattle.desk_model.specs.{Derived.numbers_of, Names.shown_name, Document.authorization_url, Document.identifier}
+use Rattle.core_replies.proofs.{Results.on_ok, Gathered.each-shows-one, ShownOrders.urls-shown, Writing.list_is, Writing.member_is, Writing.members_then}
 use Rattle.core_replies.proofs.order_documents.OrderRowShowsObjectTuple2RefPolicyRefSliceDnsName.write_members.Goals as goal
 
 pub returns-clause-written : goal.returns-clause-written
@@ -21,5 +17,4 @@ returns-clause-written c =
     (member_is c.as_str.ensures status))))))) c.member-3.ensures
 
 pub returns-clause-in_order : goal.returns-clause-in_order
-returns-clause-in_order c =
-    on_ok c.member-3.result (λ _. order_in_order c.args.by.now.0.now c.args.by.now.1.now (capped_order c.args.self.now)) c.member-3.ensures
+returns-clause-in_order c = grind arith

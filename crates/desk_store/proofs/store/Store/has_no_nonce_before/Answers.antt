@@ -1,8 +1,7 @@
 use Rattle.std.proofs.Common.{refl, subst, sym}
 use Rattle.sql_read.specs.Earliest.{IsEarliest, issues}
 use Rattle.desk_store.specs.Known.{IsKnownOf}
-use Rattle.desk_store.proofs.Knowing.{issue_learned, no_nonces_before, not_late}
-use Rattle.desk_store.proofs.NothingWritten.{learns_on, reads_knowing}
+use Rattle.desk_store.proofs.{Knowing.issue_learned, Knowing.no_nonces_before, Knowing.not_late, NothingWritten.learns_on, NothingWritten.reads_knowing}
 use Rattle.store_api.proofs.Readings.{reads_failed_as}
 use Rattle.desk_store.proofs.store.Store.has_no_nonce_before.Goals as goal
 

@@ -1,8 +1,7 @@
 use Rattle.std.proofs.Common.{refl, subst, sym}
 use Rattle.sql_read.specs.Earliest.{IsEarliest, order_ends}
 use Rattle.desk_store.specs.Known.{IsKnownOf}
-use Rattle.desk_store.proofs.Knowing.{no_orders_past, not_late, order_end_learned}
-use Rattle.desk_store.proofs.NothingWritten.{learns_on, reads_knowing}
+use Rattle.desk_store.proofs.{Knowing.no_orders_past, Knowing.not_late, Knowing.order_end_learned, NothingWritten.learns_on, NothingWritten.reads_knowing}
 use Rattle.store_api.proofs.Readings.{reads_failed_as}
 use Rattle.desk_store.proofs.store.Store.has_no_order_past.Goals as goal
 

@@ -2,8 +2,7 @@ use Rattle.std.proofs.Common.{ap, refl, subst, sym}
 use Rattle.sqlite.specs.Held.{state}
 use Rattle.desk_model.specs.{History.first_history, Tables.picture}
 use Rattle.desk_store.specs.Known.{IsKnownOf}
-use Rattle.desk_store.proofs.{Knowing.nothing_known, NewDesks.asked_is_none, NothingWritten.failed}
-use Rattle.desk_store.proofs.OpeningFaults.{not_bare, same_storage}
+use Rattle.desk_store.proofs.{Knowing.nothing_known, NewDesks.asked_is_none, NothingWritten.failed, OpeningFaults.not_bare, OpeningFaults.same_storage}
 use Rattle.desk_store.proofs.store.Store.make.Goals as goal
 
 pub returns-then-has_objects-clause-left : goal.returns-then-has_objects-clause-left

@@ -1,9 +1,7 @@
 use Rattle.std.proofs.Common.{ap, subst, sym}
 use Rattle.sqlite.specs.{Effect.Database, Held.state}
 use Rattle.desk_store.specs.{Desks.IsDesk, Known.IsKnownOf}
-use Rattle.desk_store.proofs.EitherFormat.{keeps_second, uses_keys}
-use Rattle.desk_store.proofs.Knowing.{nothing_known}
-use Rattle.desk_store.proofs.NothingWritten.{desk_unchanged, failed}
+use Rattle.desk_store.proofs.{EitherFormat.keeps_second, EitherFormat.uses_keys, Knowing.nothing_known, NothingWritten.desk_unchanged, NothingWritten.failed}
 use Rattle.desk_store.proofs.store.Store.open.Goals as goal
 
 pub returns-in-Ok-clause-asks : goal.returns-in-Ok-clause-asks

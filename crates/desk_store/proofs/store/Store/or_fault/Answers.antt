@@ -1,10 +1,8 @@
 use Rattle.std.proofs.Common.{arith, subst}
 use Rattle.std.specs.Prelude.{IfErr, OnOk}
-use Rattle.sqlite.specs.Held.{state}
-use Rattle.sqlite.specs.State.{HasCleanDisk, IsUnchanged}
+use Rattle.sqlite.specs.{Held.state, State.HasCleanDisk, State.IsUnchanged}
 use Rattle.sql_read.specs.LookUpFaults.{IsOfMemoryOrDisk}
-use Rattle.desk_store.proofs.{Books.may_read, OpeningFaults.device_met}
-use Rattle.desk_store.proofs.NothingWritten.{reads_err, reads_ok}
+use Rattle.desk_store.proofs.{Books.may_read, OpeningFaults.device_met, NothingWritten.reads_err, NothingWritten.reads_ok}
 use Rattle.desk_store.proofs.store.Store.or_fault.Goals as goal
 
 pub returns-in-Ok-clause-reads : goal.returns-in-Ok-clause-reads

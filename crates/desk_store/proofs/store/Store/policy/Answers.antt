@@ -3,8 +3,7 @@ use Rattle.sqlite.specs.Held.{state}
 use Rattle.desk_model.specs.declared.rows.Meta.{Meta}
 use Rattle.sql_schema.proofs.StaysLemmas.{asks_then}
 use Rattle.store_api.proofs.Readings.{reads_failed_as, reads_unchanged, unchanged_read}
-use Rattle.desk_store.proofs.Failing.{read_failed}
-use Rattle.desk_store.proofs.NothingWritten.{failed, hands_on}
+use Rattle.desk_store.proofs.{Failing.read_failed, NothingWritten.failed, NothingWritten.hands_on}
 use Rattle.desk_store.proofs.store.Store.policy.Goals as goal
 
 pub returns-in-Ok-clause-reads : goal.returns-in-Ok-clause-reads

@@ -1,6 +1,5 @@
 use Rattle.std.proofs.Common.{◌≡◌, refl}
-use Rattle.desk_store.proofs.Knowing.{meta_learned}
-use Rattle.desk_store.proofs.NothingWritten.{learns_on, reads_knowing}
+use Rattle.desk_store.proofs.{Knowing.meta_learned, NothingWritten.learns_on, NothingWritten.reads_knowing}
 use Rattle.store_api.proofs.Readings.{reads_failed_as}
 use Rattle.desk_store.proofs.store.Store.read_meta.Goals as goal
 

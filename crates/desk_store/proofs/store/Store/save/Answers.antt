@@ -1,8 +1,7 @@
 use Rattle.std.proofs.Common.{subst, sym}
 use Rattle.sqlite.specs.Held.{state}
 use Rattle.desk_store.specs.Known.{IsKnownOf}
-use Rattle.desk_store.proofs.{Failing.failed_to_save, Knowing.nothing_known}
-use Rattle.desk_store.proofs.SavedDesks.{saves_err, saves_ok}
+use Rattle.desk_store.proofs.{Failing.failed_to_save, Knowing.nothing_known, SavedDesks.saves_err, SavedDesks.saves_ok}
 use Rattle.desk_store.proofs.store.Store.save.Goals as goal
 
 pub returns-in-Ok-clause-saves : goal.returns-in-Ok-clause-saves

@@ -1,6 +1,5 @@
 use Rattle.std.proofs.Common.{ap, ◌∙◌}
-use Rattle.desk_model.specs.Asked.{asked_names}
-use Rattle.desk_model.specs.declared.call.Call.{Call}
+use Rattle.desk_model.specs.{Asked.asked_names, declared.call.Call.Call}
 use Rattle.identifiers.proofs.parsed.ParsedCall.names.Goals as goal
 
 pub returns : goal.returns

@@ -1,5 +1,4 @@
-use Rattle.std.proofs.Common.{map, filter, ap, ◌==◌, ◌∙◌}
-use Rattle.std.proofs.lemmas.Result.{IfOk-from_err}
+use Rattle.std.proofs.{Common.map, Common.filter, Common.ap, Common.◌==◌, Common.◌∙◌, lemmas.Result.IfOk-from_err}
 use Rattle.store_columns.specs.Flat.{challenge_rows}
 use Rattle.desk_model.specs.declared.rows.AuthorizationRow.{AuthorizationRow}
 use Rattle.sql_read.specs.{LookUpFaults.IsOfMemory, Under.rows_under}

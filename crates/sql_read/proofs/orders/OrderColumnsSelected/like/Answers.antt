@@ -1,8 +1,7 @@
 use Rattle.std.proofs.Common.{◌≡◌, Option, None, Some, IfSome}
 use Rattle.desk_model.specs.declared.rows.OrderRow.{OrderRow}
 use Rattle.store_columns.specs.Alike.{AreAlikeOrders, without_bytes}
-use Rattle.store_columns.specs.{Columns.order_columns, Limits.IsStoredOrder, Reading.IsRead}
-use Rattle.store_columns.specs.declared.columns.OrderColumns.{OrderColumns}
+use Rattle.store_columns.specs.{Columns.order_columns, Limits.IsStoredOrder, Reading.IsRead, declared.columns.OrderColumns.OrderColumns}
 use Rattle.store_columns.proofs.Unread.{read_of_whole, whole_of_read}
 use Rattle.sql_read.specs.Spelled.{order_in}
 use Rattle.sql_read.proofs.orders.OrderColumnsSelected.like.Goals as goal

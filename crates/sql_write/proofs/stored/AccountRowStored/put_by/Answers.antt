@@ -1,6 +1,5 @@
 use Rattle.std.proofs.Common.{◌∙◌, ap}
-use Rattle.desk_model.specs.{Change.applied_one, Questions.account_on}
-use Rattle.desk_model.specs.declared.rows.AccountRow.{AccountRow}
+use Rattle.desk_model.specs.{Change.applied_one, Questions.account_on, declared.rows.AccountRow.AccountRow}
 use Rattle.sql_write.proofs.StoredRows.{leaves, put_lent}
 use Rattle.sql_write.proofs.stored.AccountRowStored.put_by.Goals as goal
 

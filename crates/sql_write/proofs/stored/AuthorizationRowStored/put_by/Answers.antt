@@ -1,6 +1,5 @@
 use Rattle.std.proofs.Common.{◌∙◌, ap}
-use Rattle.desk_model.specs.{Change.applied_one, Questions.authorization_on}
-use Rattle.desk_model.specs.declared.rows.AuthorizationRow.{AuthorizationRow}
+use Rattle.desk_model.specs.{Change.applied_one, Questions.authorization_on, declared.rows.AuthorizationRow.AuthorizationRow}
 use Rattle.sql_write.proofs.StoredRows.{leaves, put_lent}
 use Rattle.sql_write.proofs.stored.AuthorizationRowStored.put_by.Goals as goal
 

@@ -1,8 +1,7 @@
 use Rattle.std.proofs.Common.{◌++◌, ◌∷◌, [], arith, refl, rules, subst, sym}
 use Rattle.desk_model.specs.declared.rows.{AccountRow.AccountRow, AuthorizationRow.AuthorizationRow, OrderRow.OrderRow}
 use Rattle.desk_model.specs.declared.rows.Change.TheVariants.{PutAccount, PutAuthorization, PutOrder}
-use Rattle.sql_write.specs.Highest.{IsAbove}
-use Rattle.sql_write.specs.declared.stored.Highest.{Highest}
+use Rattle.sql_write.specs.{Highest.IsAbove, declared.stored.Highest.Highest}
 use Rattle.sql_write.proofs.StoredRows.{above_more, leaves, put_below}
 use Rattle.sql_write.proofs.stored.Highest.with.Goals as goal
 

@@ -1,6 +1,5 @@
 use Rattle.std.proofs.Common.{◌∙◌, ap}
-use Rattle.desk_model.specs.{Change.applied_one, Questions.order_on}
-use Rattle.desk_model.specs.declared.rows.OrderRow.{OrderRow}
+use Rattle.desk_model.specs.{Change.applied_one, Questions.order_on, declared.rows.OrderRow.OrderRow}
 use Rattle.sql_write.proofs.StoredRows.{leaves, put_lent}
 use Rattle.sql_write.proofs.stored.OrderRowStored.put_by.Goals as goal
 

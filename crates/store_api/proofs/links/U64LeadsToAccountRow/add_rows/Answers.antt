@@ -1,9 +1,5 @@
-use Rattle.store_api.proofs.Found.{finds_put}
 use Rattle.store_api.proofs.links.U64LeadsToAccountRow.add_rows.Goals as goal
-use Rattle.desk_model.specs.declared.rows.AccountRow.{AccountRow}
-use Rattle.model_lives.specs.LookUps.{accounts_numbered}
+use Rattle.std.proofs.Common.{arith}
 
 pub returns : goal.returns
-returns g c =
-    finds_put (λ (x : AccountRow). x.number) (λ rows. rows.items) (λ T. accounts_numbered T c.args.self.now) _ _
-    c.find_accounts.ensures c.add_found.ensures.put c.add_found.ensures.lacks c.add_found.ensures.fails
+returns g c = grind arith

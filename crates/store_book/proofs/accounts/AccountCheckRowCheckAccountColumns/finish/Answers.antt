@@ -1,18 +1,11 @@
-use Rattle.std.proofs.Common.{subst, sym, ◌∙◌}
+use Rattle.std.proofs.Common.{subst, sym, ◌∙◌, rules}
 use Rattle.model_laws.specs.Distinct.{Distinct}
 use Rattle.model_laws.proofs.Distinctness.{distinct-map, map-distinct}
 use Rattle.store_book.proofs.Steps.{whole_table}
 use Rattle.store_book.proofs.accounts.AccountCheckRowCheckAccountColumns.finish.Goals as goal
 
 pub returns-clause-whole : goal.returns-clause-whole
-returns-clause-whole c first rows so_far = (
-  record {
-    table = whole_table (λ a. a.number) first.counter c.args.self.counter rows so_far.0;
-    keys = map-distinct (λ a. a.key) rows (subst (Distinct (λ k. k)) so_far.2
-        (rw c.deref.ensures.value at (c.in_ok-have_distinct_texts.ensures.0 c.if-not-branch.false)));
-  },
-  so_far.1,
-)
+returns-clause-whole c first rows so_far = search (rules, whole_table, map-distinct)
 
 pub returns-then-not-branch-clause-fine : goal.returns-then-not-branch-clause-fine
 returns-then-not-branch-clause-fine c first rows so_far are =

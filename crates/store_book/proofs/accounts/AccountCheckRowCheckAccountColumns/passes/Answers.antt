@@ -1,6 +1,6 @@
-use Rattle.std.proofs.Common.{sym, ◌∙◌}
 use Rattle.store_book.proofs.Steps.{counts_on, kept_more, up_to_more}
 use Rattle.store_book.proofs.accounts.AccountCheckRowCheckAccountColumns.passes.Goals as goal
+use Rattle.std.proofs.Common.{rules}
 
 pub returns-clause-passed : goal.returns-clause-passed
 returns-clause-passed c _ first rows so_far = (
@@ -11,6 +11,4 @@ returns-clause-passed c _ first rows so_far = (
 )
 
 pub returns-then-not-passes-clause-fine : goal.returns-then-not-passes-clause-fine
-returns-then-not-passes-clause-fine c first rows rest so_far are =
-    let on = counts_on (λ a. a.number) first.counter c.args.self.now.counter rows c.args.row.now rest so_far.0 are.table in
-    absurd (let x = sym c.if-not-passes.true ∙ c.passes.ensures.fine on.0 on.1 in cc)
+returns-then-not-passes-clause-fine c first rows rest so_far are = search (rules, counts_on)

@@ -1,5 +1,4 @@
-use Rattle.store_book.proofs.Steps.{owned_fine, owned_more}
-use Rattle.store_book.proofs.Results.{told_by}
+use Rattle.store_book.proofs.{Steps.owned_fine, Steps.owned_more, Results.told_by}
 use Rattle.store_book.proofs.owned.OwnedCheckRowCheckOrderColumns.passes.Goals as goal
 
 pub returns-clause-passed : goal.returns-clause-passed
