@@ -2,14 +2,13 @@
 use Rattle.std.proofs.Common.{◌≡◌, ◌≤◌, ◌<◌, ℕ, ◌+◌, List, [], ◌∷◌, ◌++◌, map, Option, Some, None, true, false, Bool, refl, ap, ◌∙◌, arith, rules}
 use Rattle.std.proofs.{lemmas.Bool.and_parts, lemmas.Bool.le-ltb, lemmas.Bool.Decides.nat_tests, lemmas.Grind.common_steps}
 use Rattle.std.specs.{Prelude.◌==◌, Prelude.find, List.list_all, List.list_any, Option.option_map}
-use Rattle.desk_model.specs.Authorization.{is_good, is_over, is_pending, is_valid, made_for}
-use Rattle.desk_model.specs.Derived.{and_status, authorization_numbered, derived_order, stored_statuses}
 use Rattle.desk_model.specs.Effect.{authorizations_after, fresh_challenge, fresh_order, moved_authorization, new_authorizations}
-use Rattle.desk_model.specs.{Allowed.may_want_on, Tables.Tables, Kept.EachOf, Lookup.holds, Questions.order_end, Questions.serves, Order.listed_by}
-use Rattle.desk_model.specs.{Order.made_status, Order.order_status_by, declared.entry.Entry.TheVariants.Ordered as ordered, declared.entry.Wanted.Wanted}
-use Rattle.desk_model.specs.{declared.objects.Authorization.Authorization, declared.objects.Challenge.Challenge, declared.objects.Order.Order}
-use Rattle.desk_model.specs.{declared.rows.AuthorizationRow.AuthorizationRow, declared.status.AuthzStatus.AuthzStatus}
-use Rattle.desk_model.specs.{declared.entry.Wanted.TheVariants.New as new, declared.entry.Wanted.TheVariants.Reused as reused}
+use Rattle.desk_model.specs.{Authorization.is_good, Authorization.is_valid, Derived.stored_statuses, declared.entry.Wanted.Wanted, declared.objects.Order.Order}
+use Rattle.desk_model.specs.{Authorization.is_over, Authorization.made_for, Derived.derived_order, Allowed.may_want_on, Questions.serves, Order.order_status_by}
+use Rattle.desk_model.specs.{Authorization.is_pending, declared.entry.Entry.TheVariants.Ordered as ordered, declared.entry.Wanted.TheVariants.Reused as reused}
+use Rattle.desk_model.specs.{Derived.and_status, Tables.Tables, Kept.EachOf, Lookup.holds, Questions.order_end, Order.listed_by, Order.made_status}
+use Rattle.desk_model.specs.{Derived.authorization_numbered, declared.objects.Authorization.Authorization, declared.rows.AuthorizationRow.AuthorizationRow}
+use Rattle.desk_model.specs.{declared.objects.Challenge.Challenge, declared.status.AuthzStatus.AuthzStatus, declared.entry.Wanted.TheVariants.New as new}
 use Rattle.model_laws.specs.{Ordered.Ascends, Ordered.Below, Reused.OfReused}
 use Rattle.model_laws.proofs.Basics.{each, each_both, each_of_map, find-append}
 use Rattle.model_laws.proofs.RowLists.{ascends_above, ascends_found, ascends_map, none_below, numbered_ascends}

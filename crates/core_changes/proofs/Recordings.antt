@@ -1,6 +1,5 @@
 -- What is recorded, entry by entry.
-use Rattle.std.proofs.Common.{◌≡◌, ℕ, ◌+◌, ◌-◌, List, [], ◌∷◌, ◌++◌, length, None, Some, Result, OnOk, refl, sym, ap, ◌∙◌, append-nil, append_assoc, arith}
-use Rattle.std.proofs.Common.{rules}
+use Rattle.std.proofs.Common.{◌≡◌, ℕ, ◌+◌, List, [], ◌∷◌, ◌++◌, length, None, Some, Result, OnOk, refl, sym, ap, ◌∙◌, append-nil, append_assoc, arith, rules}
 use Rattle.std.proofs.{lemmas.List.length-append, lemmas.Bool.Decides.nat_tests}
 use Rattle.std.specs.Prelude.{slice_get}
 use Rattle.desk_model.specs.Change.{changes, all_changes, recorded_changes, sweep_changes}

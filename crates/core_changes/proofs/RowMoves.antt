@@ -1,13 +1,13 @@
 -- Rows that an entry moves.
-use Rattle.std.proofs.Common.{◌≡◌, ◌≤◌, ◌<◌, ◌+◌, ℕ, Bool, true, false, cond, List, [], ◌∷◌, ◌++◌, map, filter, length, drop, get_or, Option, Some, None, refl}
-use Rattle.std.proofs.Common.{ap, ◌∙◌, append_assoc, append-nil, arith, rules}
-use Rattle.std.proofs.{lemmas.List.at_drop_all, lemmas.List.at_drop_more, lemmas.Bool.Decides.nat_tests, lemmas.Grind.common_steps}
+use Rattle.std.proofs.Common.{◌≡◌, ◌<◌, ◌+◌, ℕ, Bool, true, false, cond, List, [], ◌∷◌, ◌++◌, map, filter, length, drop, get_or, Option, Some, None, refl}
+use Rattle.std.proofs.Common.{ap, ◌∙◌, append_assoc, arith, rules}
+use Rattle.std.proofs.{lemmas.List.at_drop_more, lemmas.Bool.Decides.nat_tests, lemmas.Grind.common_steps}
 use Rattle.std.specs.{Prelude.find, Option.option_map}
 use Rattle.desk_model.specs.{Lookup.holds, Change.moved_rows, declared.entry.Entry.Entry, declared.rows.AccountRow.AccountRow}
-use Rattle.desk_model.specs.declared.{rows.AuthorizationRow.AuthorizationRow, rows.OrderRow.OrderRow, rows.Listed.Listed, status.AuthzStatus.AuthzStatus}
-use Rattle.desk_model.specs.Derived.{authorization_numbered, numbers_of, stored_statuses}
+use Rattle.desk_model.specs.declared.{rows.AuthorizationRow.AuthorizationRow, rows.OrderRow.OrderRow, rows.Listed.Listed}
+use Rattle.desk_model.specs.Derived.{authorization_numbered, numbers_of}
 use Rattle.desk_model.specs.Effect.{swept_authorization, swept_order, touches_authorization, touches_order, lists_one, moved_authorization}
-use Rattle.model_laws.proofs.{SweptParts.touches_swept}
+use Rattle.model_laws.proofs.SweptParts.{touches_swept}
 use Rattle.core_changes.specs.Moved.{authorizations_moved, swept_rows, rows_after, moved_one, row_of, touched_one}
 use Rattle.desk_book.proofs.SweptRows.{find-moved}
 
@@ -74,24 +74,6 @@ pub status-touched : (e : Entry) (m n : ℕ) (accounts : List AccountRow) (rows 
     touches_authorization e row ≡ true → found ≡ authorization_numbered n (authorizations_moved e m accounts rows) →
     option_map (λ r. r.status) found ≡ option_map (λ r. r.status) (authorization_numbered n (rows_after e m accounts rows))
 status-touched e m n accounts rows row found is moves looked = grind (arith, nat_tests, find-touched-at, touches_swept, after_numbered, (swept_numbered m n rows ∙ ap (option_map (swept_authorization m)) is))
-
--- what comes of rows, by one more of them
-pub maps-step : {X Y : Type 0} (f : X → Y) (xs : List X) (index : ℕ) (d : X) (y : Y) (before after whole : List Y) →
-    index < length xs → y ≡ f (get_or xs index d) → after ≡ before ++ y ∷ [] → before ++ map f (drop index xs) ≡ whole →
-    after ++ map f (drop (index + 1) xs) ≡ whole
-maps-step f xs index d y before after whole more is pushed kept = grind (arith, append_assoc, (at_drop_more (map f) xs index d more))
-
--- and behind the last one
-pub maps-end : {X Y : Type 0} (f : X → Y) (xs : List X) (index : ℕ) (done whole : List Y) →
-    length xs ≤ index → done ++ map f (drop index xs) ≡ whole → done ≡ whole
-maps-end f xs index done whole all kept = grind (arith, append-nil, (at_drop_all (map f) xs index all))
-
--- the statuses of listed authorizations, by one more of them
-pub statuses-step : (rows : List AuthorizationRow) (ls : List Listed) (index : ℕ) (d : Listed) (o : Option AuthzStatus)
-    (before after whole : List AuthzStatus) → index < length ls →
-    o ≡ option_map (λ r. r.status) (authorization_numbered (get_or ls index d).authorization rows) → after ≡ before ++ row_of o →
-    before ++ stored_statuses rows (numbers_of (drop index ls)) ≡ whole → after ++ stored_statuses rows (numbers_of (drop (index + 1) ls)) ≡ whole
-statuses-step rows ls index d o before after whole more is pushed kept = grind (arith, common_steps, append_assoc, at_drop_more)
 
 -- what an order lists, by one place more, which is not touched
 pub untouched_place : (test : AuthorizationRow → Bool) (rows : List AuthorizationRow) (ls : List Listed) (index : ℕ) (d : Listed) →

@@ -278,6 +278,7 @@ impl Movable for AuthorizationRow {
 
     ghost Knows = { λ s after. ⊤ };
 
+    #[tactic(auto, using(model_laws::proofs::SweptParts::touches_swept))]
     fn is_touched(&self, step: &Step) -> bool {
         touches_authorization(step.motion, self)
     }
@@ -322,6 +323,7 @@ fn status_after(step: &Step, after: &[AuthorizationRow], number: u64) -> Option<
     Some(next.status)
 }
 
+#[tactic(auto, using(std::proofs::lemmas::List::at_drop_all, std::proofs::lemmas::Grind::common_steps))]
 fn statuses_after(
     step: &Step,
     after: &[AuthorizationRow],
@@ -351,6 +353,7 @@ impl Movable for OrderRow {
 
     ghost Knows = { λ s after. after ≡ touched_rows s };
 
+    #[tactic(auto, using(crate::proofs::RowMoves::touches_swept_rows))]
     fn is_touched(&self, step: &Step) -> bool {
         touches_order(step.motion, step.book, self)
     }

@@ -55,6 +55,7 @@ fn touches_number(motion: &Move, book: &Book, number: u64) -> bool
 }
 
 // Whether a move touches one of the authorizations that an order lists.
+#[tactic(auto, using(std::proofs::lemmas::List::at_drop_all, std::proofs::lemmas::Grind::common_steps, crate::proofs::RowMoves::touched_place, crate::proofs::RowMoves::untouched_place))]
 fn lists_touched(motion: &Move, book: &Book, listed: &[Listed]) -> bool
     ensures { result ≡ lists_one (touches_authorization (entry_of motion.now)) book.now.authorizations (numbers_of listed.now) }
 {
@@ -163,6 +164,7 @@ fn noted_challenge(motion: &Move, moment: u64, key: &str, row: &ChallengeRow) ->
 }
 
 /// The rows of challenges after a move, whose account has a key.
+#[tactic(auto, using(std::proofs::lemmas::Grind::common_steps))]
 pub(crate) fn noted_challenges(
     alloc: Global,
     motion: &Move,

@@ -325,6 +325,7 @@ pub fn client_challenge_reply(
 /// # Errors
 ///
 /// Where there is no memory for the document.
+#[tactic(auto, using(crate::proofs::PlainDocuments::key_plain))]
 pub fn key_reply(alloc: Global, row: &AccountRow) -> Result<Reply, AllocError>
     ensures { IfOk result (λ r. r ≡ ok 200 (key_document row.now.key)) }
 {

@@ -1,19 +1,11 @@
 -- Verdicts on signed requests, by the account of the request's key.
-use Rattle.std.proofs.Common.{◌≡◌, ℕ, List, [], true, false, Some, sym, ap, subst, ◌∙◌}
-use Rattle.desk_model.specs.Rules.{holder_verdict, open_account, target_verdict, unknown_key_verdict}
-use Rattle.desk_model.specs.{Payload.new_account, Tables.Tables, Account.is_valid, declared.call.Target.Target, declared.payload.NewAccount.NewAccount}
+use Rattle.std.proofs.Common.{◌≡◌, ℕ, List, [], true, false, sym, ap, subst, ◌∙◌}
+use Rattle.desk_model.specs.{Rules.holder_verdict, Rules.target_verdict, Tables.Tables, Account.is_valid, declared.call.Target.Target}
 use Rattle.desk_model.specs.{declared.refusal.Refusal.Refusal, declared.rows.AccountRow.AccountRow, declared.rows.Counters.Counters}
-use Rattle.desk_model.specs.{declared.verdict.Verdict.Verdict, declared.verdict.Verdict.TheVariants.Refused as refused, Verdict.check, Verdict.given}
-use Rattle.desk_model.specs.declared.call.Target.TheVariants as to
-use Rattle.desk_model.specs.declared.refusal.Refusal.TheVariants as refusal
+use Rattle.desk_model.specs.{declared.verdict.Verdict.Verdict, declared.verdict.Verdict.TheVariants.Refused as refused, Verdict.check}
 use Rattle.core_rules.specs.Needs.{NumbersLeft, BytesLeft}
+use Rattle.desk_model.specs.declared.refusal.Refusal.TheVariants as refusal
 pub use Rattle.core_rules.specs.Needs.{IsJudged}
-
--- a newAccount request of a key without an account opens one
-pub unknown-opens : (key p : List ℕ) (t : Target) (asked : NewAccount) → t ≡ to.NewAccount → new_account p ≡ Some asked →
-    unknown_key_verdict key p t ≡ open_account key asked
-unfolding given
-unknown-opens key p t asked is some = ap (unknown_key_verdict key p) is ∙ ap (λ o. given o refusal.Malformed (open_account key)) some
 
 -- a request of the holder of a valid account
 pub holder-valid : (T : Tables) (r p : List ℕ) (t : Target) (a : AccountRow) → is_valid a.status ≡ true →

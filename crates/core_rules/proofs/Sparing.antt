@@ -1,21 +1,15 @@
 -- Verdicts that need no numbers and no random bytes.
 use Rattle.std.proofs.Common.{◌≡◌, ℕ, List, Bool, true, false, Option, Some, None, Result, Ok, Err, MatchResult, drop, sym, ap, subst, ◌∙◌, arith, rules}
-use Rattle.desk_model.specs.declared.{refusal.Refusal.Refusal, rows.AuthorizationRow.AuthorizationRow, rows.OrderRow.OrderRow, call.Signed.Signed, call.Target.Target}
-use Rattle.desk_model.specs.declared.{payload.AccountChange.AccountChange, payload.AuthorizationChange.AuthorizationChange, payload.KeyChange.KeyChange}
-use Rattle.desk_model.specs.declared.{rows.AccountRow.AccountRow, payload.ChallengeChange.ChallengeChange, rows.Counters.Counters, verdict.Verdict.Verdict}
-use Rattle.desk_model.specs.{Questions.account_with_key, Tables.Tables}
-use Rattle.desk_model.specs.Rules.{key_change_verdict, rekey_verdict, account_verdict, authorization_verdict, certificate_verdict, challenge_verdict}
-use Rattle.desk_model.specs.Rules.{finalize_verdict, target_verdict}
-use Rattle.desk_model.specs.Verdict.{check, given, unless_fault, choose}
+use Rattle.desk_model.specs.Rules.{key_change_verdict, rekey_verdict, target_verdict}
+use Rattle.desk_model.specs.{declared.refusal.Refusal.Refusal, declared.call.Signed.Signed, declared.call.Target.Target, declared.payload.KeyChange.KeyChange}
+use Rattle.desk_model.specs.{declared.rows.AccountRow.AccountRow, declared.rows.Counters.Counters, declared.verdict.Verdict.Verdict, Payload.key_change}
+use Rattle.desk_model.specs.{Questions.account_with_key, Tables.Tables, Verdict.check, Verdict.given, Verdict.unless_fault, Verdict.choose}
+use Rattle.identifiers.specs.ReadOnce.{target_key_change}
+use Rattle.core_rules.specs.{Needs.NumbersLeft, Needs.BytesLeft, declared.fault.CoreFault.CoreFault}
+use Rattle.core_rules.proofs.KeyVerdicts.{IsJudged}
 use Rattle.desk_model.specs.declared.call.Target.TheVariants as to
 use Rattle.desk_model.specs.declared.refusal.Refusal.TheVariants as refusal
-use Rattle.identifiers.specs.ReadOnce.{target_key_change}
-use Rattle.desk_model.specs.declared.payload.AccountChange.TheVariants as account
-use Rattle.desk_model.specs.declared.payload.AuthorizationChange.TheVariants as authz
-use Rattle.desk_model.specs.declared.payload.ChallengeChange.TheVariants as chall
-use Rattle.core_rules.specs.{Needs.NumbersLeft, Needs.BytesLeft, declared.fault.CoreFault.CoreFault}
 use Rattle.core_rules.specs.declared.fault.CoreFault.TheVariants as fault
-use Rattle.core_rules.proofs.KeyVerdicts.{IsJudged}
 
 -- whatever numbers were given, and whatever random bytes there are
 abbrev pub Spares : Verdict → Type 0
@@ -30,36 +24,6 @@ given-spares : {X : Type 0} (o : Option X) (number : Refusal) (v : X → Verdict
 unfolding given
 given-spares None number v h = λ C random. (tt, tt)
 given-spares (Some x) number v h = h x
-
-unless_fault-spares : (o : Option Refusal) (v : Verdict) → Spares v → Spares (unless_fault o v)
-unfolding unless_fault
-unless_fault-spares None v h = h
-unless_fault-spares (Some number) v h = λ C random. (tt, tt)
-
-choose-spares : (b : Bool) (v w : Verdict) → Spares v → Spares w → Spares (choose b v w)
-unfolding choose
-choose-spares true v w h k = h
-choose-spares false v w h k = k
-
-account-spares : (n : ℕ) (change : AccountChange) → Spares (account_verdict n change)
-account-spares n account.Read = λ C random. (tt, tt)
-account-spares n account.Deactivate = λ C random. (tt, tt)
-account-spares n (account.Update None) = λ C random. (tt, tt)
-account-spares n (account.Update (Some contacts)) = unless_fault-spares _ _ (λ C random. (tt, tt))
-
-authorization-spares : (n : ℕ) (a : AuthorizationRow) (change : AuthorizationChange) → Spares (authorization_verdict n a change)
-authorization-spares n a authz.Read = λ C random. (tt, tt)
-authorization-spares n a authz.Deactivate = choose-spares _ _ _ (λ C random. (tt, tt)) (λ C random. (tt, tt))
-
-challenge-spares : (n : ℕ) (a : AuthorizationRow) (change : ChallengeChange) → Spares (challenge_verdict n a change)
-challenge-spares n a chall.Read = λ C random. (tt, tt)
-challenge-spares n a chall.Answer = choose-spares _ _ _ (λ C random. (tt, tt)) (λ C random. (tt, tt))
-
-finalize-spares : (n : ℕ) (o : OrderRow) (text : List ℕ) → Spares (finalize_verdict n o text)
-finalize-spares n o text = check-spares _ _ _ (given-spares _ _ _ (λ csr C random. (tt, tt)))
-
-certificate-spares : (n : ℕ) (o : OrderRow) → Spares (certificate_verdict n o)
-certificate-spares n o = given-spares _ _ _ (λ k C random. (tt, tt))
 
 rekey-spares : (n : ℕ) (key : List ℕ) (o : Option AccountRow) → Spares (rekey_verdict n key o)
 rekey-spares n key o = search rules
@@ -76,16 +40,17 @@ IsSparing _ = Unit {0}
 
 -- its verdict needs none of them
 pub target-spares : (T : Tables) (r : List ℕ) (n : ℕ) (p : List ℕ) (t : Target) → IsSparing t → Spares (target_verdict T r n p t)
+unfolding check given unless_fault choose
 target-spares T r n p to.NewOrder is = absurd is
-target-spares T r n p to.KeyChange is = given-spares _ _ _ (key_change-spares T n)
-target-spares T r n p to.NewAccount is = given-spares _ _ _ (λ asked C random. (tt, tt))
-target-spares T r n p (to.Account k) is = check-spares _ _ _ (given-spares _ _ _ (account-spares n))
-target-spares T r n p (to.Orders k) is = check-spares _ _ _ (check-spares _ _ _ (λ C random. (tt, tt)))
-target-spares T r n p (to.Order k) is = given-spares _ _ _ (λ o. check-spares _ _ _ (λ C random. (tt, tt)))
-target-spares T r n p (to.Finalize k) is = given-spares _ _ _ (λ o. given-spares _ _ _ (finalize-spares k o))
-target-spares T r n p (to.Cert k) is = given-spares _ _ _ (λ o. check-spares _ _ _ (certificate-spares k o))
-target-spares T r n p (to.Authz k) is = given-spares _ _ _ (λ a. given-spares _ _ _ (authorization-spares k a))
-target-spares T r n p (to.Chall k) is = given-spares _ _ _ (λ a. given-spares _ _ _ (challenge-spares k a))
+target-spares T r n p to.KeyChange is = given-spares (key_change p) refusal.Malformed (key_change_verdict T n) (key_change-spares T n)
+target-spares T r n p to.NewAccount is = λ C random. grind arith
+target-spares T r n p (to.Account k) is = λ C random. grind arith
+target-spares T r n p (to.Orders k) is = λ C random. grind arith
+target-spares T r n p (to.Order k) is = λ C random. grind arith
+target-spares T r n p (to.Finalize k) is = λ C random. grind arith
+target-spares T r n p (to.Cert k) is = λ C random. grind arith
+target-spares T r n p (to.Authz k) is = λ C random. grind arith
+target-spares T r n p (to.Chall k) is = λ C random. grind arith
 
 -- the verdict of a target that is one of these
 pub target-spared : (T : Tables) (random : List ℕ) (n : ℕ) (p : List ℕ) (target reading : Target) → IsSparing reading →

@@ -2,10 +2,9 @@
 use Rattle.std.proofs.Common.{◌≡◌, ℕ, ◌+◌, Option, Bool, true, false, cond, List, [], ◌∷◌, map, Some, refl, ◌∙◌, arith}
 use Rattle.std.proofs.lemmas.Bool.Decides.{nat_tests}
 use Rattle.std.specs.{Prelude.◌==◌, Prelude.◌||◌, Prelude.find, Prelude.is_some, List.list_any, Option.option_map}
-use Rattle.desk_model.specs.{Tables.Tables, Name.Name, declared.rows.AuthorizationRow.AuthorizationRow, declared.rows.ChallengeRow.ChallengeRow}
-use Rattle.desk_model.specs.declared.{rows.OrderRow.OrderRow, status.AuthzStatus.AuthzStatus, status.OrderStatus.OrderStatus}
-use Rattle.desk_model.specs.Effect.{has_row, swept, swept_authorization, swept_order}
 use Rattle.desk_model.specs.Questions.{authorization_on, challenge_of, order_on, owner_on, serves, serving_on}
+use Rattle.desk_model.specs.{Tables.Tables, Name.Name, declared.rows.AuthorizationRow.AuthorizationRow, declared.rows.ChallengeRow.ChallengeRow}
+use Rattle.desk_model.specs.{declared.rows.OrderRow.OrderRow, Effect.has_row, Effect.swept, Effect.swept_authorization, Effect.swept_order}
 use Rattle.model_laws.proofs.Basics.{find-map}
 
 -- only the status of an authorization moves by the passing of time
@@ -32,15 +31,6 @@ swept_owner_on m T n = grind (arith, nat_tests, find-moved, swept_authorization-
 -- the order of a number
 pub swept_order_on : (m : ℕ) (T : Tables) (n : ℕ) → order_on (swept m T) n ≡ option_map (swept_order m T.authorizations) (order_on T n)
 swept_order_on m T n = grind (arith, nat_tests, find-moved, swept_order-status)
-
--- a row that is found, with its status at the moment
-pub authorization-found : (m : ℕ) (o found : Option AuthorizationRow) (row : AuthorizationRow) (s : AuthzStatus) → found ≡ option_map (swept_authorization m) o
-    → Some row ≡ o → s ≡ (swept_authorization m row).status → Some (record row { status = s }) ≡ found
-authorization-found m o found row s moves there is = grind (arith, nat_tests)
-
-pub order-found : (m : ℕ) (rows : List AuthorizationRow) (o found : Option OrderRow) (row : OrderRow) (s : OrderStatus)
-    → found ≡ option_map (swept_order m rows) o → Some row ≡ o → s ≡ (swept_order m rows row).status → Some (record row { status = s }) ≡ found
-order-found m rows o found row s moves there is = grind (arith, nat_tests)
 
 -- an authorization that has a challenge of a number has one to be found
 pub challenge_there : (n : ℕ) (a : AuthorizationRow) → is_some (challenge_of n a) ≡ has_row n a

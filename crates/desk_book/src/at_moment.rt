@@ -77,6 +77,7 @@ impl<'a> At<'a> {
     }
 
     /// The authorization of a number, with its status at the moment.
+    #[tactic(auto, using(crate::proofs::SweptRows::swept_authorization_on))]
     pub fn authorization(&self, number: u64) -> Option<(&AuthorizationRow, AuthzStatus)>
         ensures { option_map (λ p. record p.0.now { status = p.1 }) result ≡ authorization_on self.now number }
     {
@@ -85,6 +86,7 @@ impl<'a> At<'a> {
     }
 
     /// The authorization that a challenge is of, with its status at the moment.
+    #[tactic(auto, using(crate::proofs::SweptRows::swept_owner_on))]
     pub fn owner(&self, challenge: u64) -> Option<(&AuthorizationRow, AuthzStatus)>
         ensures { option_map (λ p. record p.0.now { status = p.1 }) result ≡ owner_on self.now challenge }
     {
@@ -116,6 +118,7 @@ impl<'a> At<'a> {
     }
 
     /// The order of a number, with its status at the moment.
+    #[tactic(auto, using(crate::proofs::SweptRows::swept_order_on))]
     pub fn order(&self, number: u64) -> Option<(&OrderRow, OrderStatus)>
         ensures { option_map (λ p. record p.0.now { status = p.1 }) result ≡ order_on self.now number }
     {
@@ -157,6 +160,7 @@ fn serves_with(need: &Need, row: &AuthorizationRow, status: AuthzStatus) -> bool
 }
 
 // Whether an authorization serves, as it stands at the moment.
+#[tactic(auto, using(std::proofs::lemmas::Bool::Decides::nat_tests))]
 fn serves(need: &Need, row: &AuthorizationRow) -> bool
     ensures { result ≡ serves need.now.account need.now.name.now (need.now.moment + need.now.life) (swept_authorization need.now.moment row.now) }
 {
@@ -270,6 +274,7 @@ fn remove_gone(changes: &mut Vec<Change>, book: &Book, moment: u64) -> Result<()
     Ok(())
 }
 
+#[tactic(auto, using(crate::proofs::Sweeping::change_added, std::proofs::lemmas::Bool::Decides::nat_tests))]
 fn push_expired(changes: &mut Vec<Change>, book: &Book, moment: u64) -> Result<(), AllocError>
     ensures { OnOk result (changes.new.items ≡ changes.old.items ++ map PutAuthorization (authorizations_expired moment book.now)) }
 {
@@ -283,6 +288,7 @@ fn push_expired(changes: &mut Vec<Change>, book: &Book, moment: u64) -> Result<(
     Ok(())
 }
 
+#[tactic(auto, using(crate::proofs::Sweeping::change_added, std::proofs::lemmas::Bool::Decides::nat_tests))]
 fn push_fallen(changes: &mut Vec<Change>, book: &Book, moment: u64) -> Result<(), AllocError>
     ensures { OnOk result (changes.new.items ≡ changes.old.items ++ map PutOrder (orders_fallen moment book.now)) }
 {

@@ -20,14 +20,6 @@ use Rattle.identifiers.proofs.NamesKept.{same_names}
 use Rattle.desk_core.proofs.ShownTexts.{order_ends}
 use Rattle.desk_book.proofs.SweptRows.{find-moved}
 
--- the counters when a recording has begun
-pub at_begun : (m : ℕ) (B : Tables) (C : Counters) → C ≡ record B.meta.counters { clock = m } → IsAt m B C
-at_begun m B C is = is ∙ (λ i. record B.meta.counters { clock = m; nonces = (sym is i).nonces })
-
--- and when a nonce was spent and one issued
-pub at_issued : (m : ℕ) (B : Tables) (C : Counters) → C ≡ record B.meta.counters { clock = m; nonces = B.meta.counters.nonces + 1 } → IsAt m B C
-at_issued m B C is = is ∙ (λ i. record B.meta.counters { clock = m; nonces = (sym is i).nonces })
-
 -- the same entries are recorded
 pub same_entries : (m : ℕ) (B : Tables) {es ds : List Entry} {done : List Change} {counters : Counters} → es ≡ ds
     → IsRecorded m B es done counters → IsRecorded m B ds done counters

@@ -1,5 +1,5 @@
 -- From what the code answers by rows to what is promised against histories.
-use Rattle.std.proofs.Common.{◌≡◌, ℕ, ◌+◌, ◌*◌, ◌<◌, ◌≤◌, List, [], ◌∷◌, ◌++◌, length, refl, None, sym, ap, subst, ◌∙◌, arith, length-append, rules}
+use Rattle.std.proofs.Common.{◌≡◌, ℕ, ◌*◌, ◌<◌, ◌≤◌, List, [], ◌∷◌, ◌++◌, length, refl, None, sym, ap, subst, ◌∙◌, arith, length-append, rules}
 use Rattle.std.specs.Prelude.{IsTrue}
 use Rattle.desk_model.specs.{Entry.History, Nonce.nonces, Account.accounts, Order.orders, History.clock, History.moment_of, History.record_all, Legal.Legal}
 use Rattle.desk_model.specs.{Legal.EachFollows, Legal.numbers_fit, Limits.last_moment, Limits.last_number, Authorization.authorizations, Tables.Tables}
@@ -9,10 +9,10 @@ use Rattle.desk_model.specs.{declared.rows.Change.Change, declared.rows.Counters
 use Rattle.desk_model.specs.{declared.entry.Entry.TheVariants.Issued as issued, declared.entry.Entry.TheVariants.Spent as spent}
 use Rattle.model_laws.specs.{News.AreNews, News.AreKept, News.AreNewChildren, LegalLaws.CountersFit}
 use Rattle.model_laws.proofs.{KeptInOrder.records_keep, NewChildren.records_bring_new_children, NewsInOrder.records_put_news, Recorded.recorded, Step.steps}
-use Rattle.model_laws.proofs.{Step.sweep, Keeps.counters_fit, Keeps.numbers_fit_counters}
+use Rattle.model_laws.proofs.{Step.sweep, Keeps.counters_fit}
 use Rattle.model_lives.proofs.SoundCalls.{moment_later, call_follows, legal_by_numbers}
 use Rattle.desk_core.specs.{HasTexts.HasTexts, Decided.IsDecision, SameRows.SameRows}
-use Rattle.core_rules.specs.Needs.{NumbersLeft, NumbersSpent}
+use Rattle.core_rules.specs.Needs.{NumbersSpent}
 
 -- no fault, from its three tests
 pub faultless : (F : History) (call : Call) → call.at ≤ last_moment → IsTrue (numbers_fit (after F call))
@@ -24,9 +24,6 @@ faultless F call at fits enough = search rules
 
 pub counters : (F : History) → Legal F → CountersFit (picture F).meta.counters
 counters F legal = counters_fit F legal.numbered (clock F)
-
-pub fitting : (F : History) → CountersFit (picture F).meta.counters → IsTrue (numbers_fit F)
-fitting F h = numbers_fit_counters F (clock F) h
 
 -- the numbers after some entries
 pub fits_issued : (F : History) (m : ℕ) (r : List ℕ) → CountersFit (picture F).meta.counters → length (nonces F) < last_number
@@ -48,11 +45,6 @@ nonces_stay F m n = omega (arith, length-append (nonces F) [])
 pub fits_nonces : (F : History) (m n : ℕ) (r : List ℕ) → CountersFit (picture F).meta.counters → length (nonces F) < last_number →
     CountersFit (picture (record_all m (spent n ∷ issued r ∷ []) F)).meta.counters
 fits_nonces F m n r h lt = fits_issued (record { date = m; entry = spent n } ∷ F) m r (fits_spent F m n h) (omega (arith, nonces_stay F m n))
-
--- so neither does what it needs
-pub left_same : (C D : Counters) (v : Verdict) → C.accounts ≡ D.accounts → C.orders ≡ D.orders → C.authorizations ≡ D.authorizations
-    → C.challenges ≡ D.challenges → NumbersLeft D v → NumbersLeft C v
-left_same C D v h k l g e = search rules
 
 -- nor that it has spent them
 pub spent_same : (C D : Counters) (v : Verdict) → C.accounts ≡ D.accounts → C.orders ≡ D.orders → C.authorizations ≡ D.authorizations

@@ -3,7 +3,6 @@ pub mod ActingRows
 pub mod Deciding
 pub mod DecidingAsks
 pub mod DecidingFaults
-pub mod Faults
 pub mod MovedReplies
 pub mod MovedThere
 pub mod NamedRows

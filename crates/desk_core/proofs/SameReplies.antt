@@ -1,5 +1,5 @@
 -- What an entry does to the rows, and what is shown then, depends on no nonce.
-use Rattle.std.proofs.Common.{◌≡◌, ℕ, ◌+◌, List, [], ◌∷◌, ◌++◌, Bool, refl, arith}
+use Rattle.std.proofs.Common.{◌≡◌, ℕ, List, [], ◌∷◌, ◌++◌, Bool, refl, arith}
 use Rattle.desk_model.specs.{Tables.Tables, declared.entry.Entry.Entry, declared.verdict.Verdict.Verdict, Effect.effect, Effect.effects, Decide.entries_of}
 use Rattle.desk_model.specs.{Decide.verdict_reply, declared.entry.Entry.TheVariants.Issued as issued, declared.entry.Entry.TheVariants.Spent as spent}
 use Rattle.model_laws.proofs.Plain.{spent_effect}

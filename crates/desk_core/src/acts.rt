@@ -32,6 +32,7 @@ use desk_model::{
 use std::alloc::{AllocError, Global};
 
 // Moves rows, and shows what is named.
+#[tactic(auto, using(crate::proofs::MovedThere::among_moved, crate::proofs::Acting::where_answered))]
 fn act_on_rows(
     alloc: Global,
     book: &Book,
@@ -178,6 +179,7 @@ fn order_at(at: &At, number: u64) -> Result<OrderRow, AllocError>
 }
 
 // The challenge of a number, which is one of the authorization's.
+#[tactic(auto, using(desk_book::proofs::SweptRows::challenge_there, crate::proofs::ShownTexts::mapped_some))]
 fn challenge_in(row: &AuthorizationRow, number: u64) -> &ChallengeRow
     requires { has_row number row.now ≡ true }
     ensures { challenge_of number row.now ≡ Some result.now }
@@ -211,6 +213,7 @@ fn show_certificate(at: &At, number: u64) -> Result<Reply, AllocError>
     certificate_reply(row.certified.as_ref().unwrap())
 }
 
+#[tactic(auto, using(crate::proofs::ShownChallenges::challenge_text))]
 fn show_challenge(
     alloc: Global,
     policy: &Policy,
@@ -223,6 +226,7 @@ fn show_challenge(
     challenge_reply(alloc, policy, challenge_in(owner, number))
 }
 
+#[tactic(auto, using(crate::proofs::ShownChallenges::challenge_text))]
 fn show_client_challenge(
     alloc: Global,
     policy: &Policy,
@@ -248,6 +252,7 @@ fn show_order_at(alloc: Global, book: &Book, at: &At, number: u64) -> Result<Rep
 }
 
 // What is shown of an authorization at a moment.
+#[tactic(auto, using(model_laws::proofs::Finds::each_found))]
 fn show_authorization_at(alloc: Global, at: &At, number: u64) -> Result<Reply, AllocError>
     requires { IsSome (authorization_on at.now number) }
     ensures { IfOk result (λ r. HasTexts at.now → r ≡ shown (authorization_reply at.now) (authorization_on at.now number)) }
@@ -257,6 +262,7 @@ fn show_authorization_at(alloc: Global, at: &At, number: u64) -> Result<Reply, A
 }
 
 // What is shown of a challenge at a moment.
+#[tactic(auto, using(model_laws::proofs::Finds::each_found, model_laws::proofs::Finds::found_passes))]
 fn show_challenge_at(alloc: Global, at: &At, number: u64) -> Result<Reply, AllocError>
     requires { IsSome (owner_on at.now number) }
     ensures { IfOk result (λ r. HasTexts at.now → r ≡ shown (challenge_in at.now number) (owner_on at.now number)) }
@@ -266,6 +272,7 @@ fn show_challenge_at(alloc: Global, at: &At, number: u64) -> Result<Reply, Alloc
 }
 
 // The same, shown to its client.
+#[tactic(auto, using(model_laws::proofs::Finds::each_found, model_laws::proofs::Finds::found_passes))]
 fn show_client_challenge_at(alloc: Global, at: &At, number: u64) -> Result<Reply, AllocError>
     requires { IsSome (owner_on at.now number) }
     ensures { IfOk result (λ r. HasTexts at.now → r ≡ shown (client_challenge_in at.now number) (owner_on at.now number)) }

@@ -77,6 +77,7 @@ fn issue(
 }
 
 // Issues a nonce and nothing else, with this reply.
+#[tactic(auto, using(core_replies::proofs::Results::ok_so))]
 fn issued(
     alloc: Global,
     book: &Book,
@@ -119,6 +120,7 @@ fn begin_signed(
 }
 
 // Carries the verdict on a signed request out, and gives the reply with the fresh nonce.
+#[tactic(auto, using(crate::proofs::Acting::where_answered))]
 fn act_with_nonce(
     alloc: Global,
     book: &Book,
@@ -141,6 +143,7 @@ fn act_with_nonce(
 }
 
 // A signed request whose nonce was open: the nonce is spent and a fresh one issued, and the verdict is carried out.
+#[tactic(auto, using(core_replies::proofs::Results::ok_so, core_changes::proofs::Moving::untouched_nonces))]
 fn act_with_fresh_nonce(
     alloc: Global,
     book: &Book,
@@ -166,6 +169,7 @@ fn act_with_fresh_nonce(
 }
 
 // The verdict on a signed request at a moment.
+#[tactic(auto, using(crate::proofs::NamedRows::signed_there))]
 fn signed_verdict(
     alloc: Global,
     book: &Book,
@@ -224,6 +228,7 @@ fn signed(
 }
 
 // A request without a nonce that records an entry.
+#[tactic(auto, using(core_replies::proofs::Results::ok_so, crate::proofs::ActingRows::same_entries, core_changes::proofs::Moving::untouched_none))]
 fn recorded(
     alloc: Global,
     book: &Book,
@@ -287,6 +292,7 @@ fn act_without_nonce(
 }
 
 // The verdict on a request without a nonce at a moment.
+#[tactic(auto, using(crate::proofs::NamedRows::office_there))]
 fn office_verdict(
     alloc: Global,
     book: &Book,
@@ -300,6 +306,7 @@ fn office_verdict(
 }
 
 // A request of the validator, the signing office or the operator, or for the directory.
+#[tactic(auto, using(crate::proofs::Spaced::no_numbers))]
 fn office(alloc: Global, book: &Book, moment: u64, ask: &OfficeAsk) -> Result<Decision, CoreFault>
     requires { moment ≤ last_moment }
     ensures { MatchResult result

@@ -1,8 +1,7 @@
 -- JSON values that are plain hold no float and are not deep.
 use Rattle.std.proofs.Common.{◌≡◌, ◌≤◌, ◌∙◌, ℕ, zero, suc, List, [], ◌∷◌, map, Bool, true, false, Result, Ok, Err, IfOk, Some, refl, ap, sym, subst, arith}
 use Rattle.std.specs.Prelude.{◌&&◌, ◌||◌, not}
-use Rattle.serde_json.specs.Data.{Data, null, boolean, number, string, array, object, Items, no_items, item, Members, no_members, member, depth, items_depth}
-use Rattle.serde_json.specs.Data.{members_depth}
+use Rattle.serde_json.specs.Data.{Data, number, array, object, Items, no_items, item, Members, no_members, member, depth, items_depth, members_depth}
 use Rattle.serde_json.specs.Written.{compact_text, has_float, items_have_float, members_have_float}
 use Rattle.serde_json.specs.{Find.is_float, View.items_of, Read.max_depth, Read.read}
 use Rattle.desk_model.specs.Plain.{is_document, is_plain, items_are_plain, members_are_plain}

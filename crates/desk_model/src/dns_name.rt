@@ -121,6 +121,7 @@ fn has_labels(name: &str) -> bool
 }
 
 // Whether there are two parts or more, of which the last one is not all digits.
+#[tactic(auto, using(crate::proofs::Labels::last_full_stop, crate::proofs::Labels::no_full_stop))]
 fn has_top_label(name: &str) -> bool
     ensures { result ≡ (nat_le 2 (length (labels_of name.now)) && not (list_all is_ascii_digit (last_label name.now))) }
 {

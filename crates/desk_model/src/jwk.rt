@@ -75,6 +75,7 @@ fn is_key_text(text: &str) -> bool
 }
 
 // Whether the text is of one of the shapes of canonical texts.
+#[tactic(auto, using(std::proofs::Common::inl, std::proofs::Common::inr))]
 fn has_key_shape(text: &str) -> bool
     ensures { IsTrue result ↔ HasKeyShape text.now }
 {
@@ -88,6 +89,7 @@ fn has_key_shape(text: &str) -> bool
 }
 
 // Whether the text has the shape of a key on a curve of the NIST.
+#[tactic(auto, using(std::proofs::Common::inl, std::proofs::Common::inr))]
 fn has_ec_shape(text: &str) -> bool
     ensures { IsTrue result ↔ HasEcShape text.now }
 {
@@ -108,6 +110,7 @@ fn is_on_curve(text: &str, head: &str) -> bool
 }
 
 // Whether two numbers stand behind the head, with this between them, and end the text.
+#[tactic(auto, using(std::proofs::lemmas::List::append_cancel_left))]
 fn has_two_numbers(text: &str, head: &str, between: &str) -> bool
     ensures { IsTrue result ↔ HasTwoNumbers head.now between.now text.now }
 {
@@ -118,6 +121,7 @@ fn has_two_numbers(text: &str, head: &str, between: &str) -> bool
 }
 
 // Whether one number stands behind the head and ends the text.
+#[tactic(auto, using(std::proofs::lemmas::List::append_cancel_left))]
 fn has_one_number(text: &str, head: &str) -> bool
     ensures { IsTrue result ↔ HasOneNumber head.now text.now }
 {

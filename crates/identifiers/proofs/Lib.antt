@@ -1,4 +1,3 @@
-pub mod AskedNames
 pub mod NameOf
 pub mod NamesKept
 pub mod NamesRead

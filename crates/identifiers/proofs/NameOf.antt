@@ -6,10 +6,6 @@ use Rattle.std.specs.Prelude.{◌==◌, nat_eq, drop, codes, if◌then◌else◌
 use Rattle.std.specs.List.{list_any, starts_with}
 use Rattle.desk_model.specs.{BaseName.is_base_name, Name.Name, Names.IsNameOf, Names.mark_of, Names.ascii_form, Names.name_of, Names.name_with}
 
--- a text stands for one name at most
-pub IsNameOf-unique : (text b c : List ℕ) (v w : Bool) → IsNameOf text b v → IsNameOf text c w → (b ≡ c) × (v ≡ w)
-IsNameOf-unique text b c v w m n = grind (arith, nat_tests)
-
 -- no asterisk is found among other characters
 no_star : (xs : List ℕ) → All (λ c. c ≢ 42) xs → list_any (λ c. c == 42) xs ≡ false
 no_star xs h = list_any_none (λ c. c == 42) xs (All-weaker (λ c. c ≢ 42) (λ c. (c == 42) ≡ false) (λ x ne. ne_eqb x 42 ne) xs h)

@@ -1,12 +1,12 @@
 -- The documents of refusals: their shapes, and that they are plain.
-use Rattle.std.proofs.Common.{◌≡◌, List, [], ◌∷◌, ◌++◌, map, codes, true, refl, ap, arith}
+use Rattle.std.proofs.Common.{◌≡◌, List, [], ◌∷◌, ◌++◌, map, codes, true, refl, arith}
 use Rattle.std.proofs.lemmas.Bool.Decides.{nat_tests}
-use Rattle.serde_json.specs.{Data.Members, Data.object, Data.put, Data.string, Data.unsigned, View.items_of}
+use Rattle.serde_json.specs.{Data.Members, Data.put, Data.string, Data.unsigned, View.items_of}
 use Rattle.serde_json.specs.Data as json
 use Rattle.desk_model.specs.Refusals.{refusal_of, error_type, problem_document, subproblem_document, subproblem_members}
 use Rattle.desk_model.specs.{declared.refusal.Refusal.Refusal, declared.reply.Problem.Problem, declared.reply.Subproblem.Subproblem, Json.document, Json.list}
-use Rattle.desk_model.specs.{Json.members, Plain.is_document, Plain.items_are_plain}
-use Rattle.json_texts.specs.Refused.{refusal_members, with_subproblems}
+use Rattle.desk_model.specs.{Plain.is_document, Plain.items_are_plain}
+use Rattle.json_texts.specs.Refused.{with_subproblems}
 
 -- a document of a refusal by its why and its subproblems
 abbrev shaped : Refusal → List Subproblem → json.Data
@@ -18,18 +18,6 @@ shaped why subproblems =
     ++ (codes "type", string (error_type (refusal_of why).error_type))
     ∷ [])
     )
-
--- the status and the subproblems stand in the order of names
-members_by : (subproblems : List Subproblem) (detail status kind : json.Data) →
-    with_subproblems subproblems (put (codes "status") status (members ((codes "detail", detail) ∷ (codes "type", kind) ∷ [])))
-    ≡ members ((codes "detail", detail) ∷ (codes "status", status) ∷ (subproblem_members subproblems ++ (codes "type", kind) ∷ []))
-members_by subproblems detail status kind = grind (arith, nat_tests)
-
--- they make the document of a refusal
-pub problem-members : (p : Problem) →
-    object (with_subproblems p.subproblems (put (codes "status") (json.number (unsigned (refusal_of p.refusal).status)) (members (refusal_members p.refusal))))
-    ≡ problem_document p
-problem-members p = ap object (members_by p.subproblems _ _ _)
 
 -- where there are some, they are put
 pub some_put : (subproblems : List Subproblem) (others : Members) → (subproblems ≡ [] → ⊥) →

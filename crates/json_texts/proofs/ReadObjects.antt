@@ -2,14 +2,13 @@
 use Rattle.std.proofs.Common.{◌≡◌, ℕ, List, [], ◌∷◌, Bor, Vec, rules, Bool, true, Option, Some, None, option_map, refl, sym, ap, ◌∙◌, arith}
 use Rattle.std.proofs.{lemmas.Slice.Eq.bytes_eq-Decides, lemmas.Bool.Decides.nat_tests}
 use Rattle.std.specs.{Prelude.◌&&◌, Prelude.option_and_then, List.list_all}
-use Rattle.json.specs.Json as json
-use Rattle.json.specs.Find as json_find
 use Rattle.json.specs.declared.value.Value.{Value as TextValue, Object, the_lemmas}
 use Rattle.json.specs.{Lex.tokens, Value.members_view, Value.value_view}
-use Rattle.serde_json.specs.Data.{Data, Members, put}
-use Rattle.serde_json.specs.{Find.get, Find.get_member, Read.max_depth, Read.of_json, Read.of_members, Read.read}
+use Rattle.serde_json.specs.{Data.Data, Data.Members, Data.put, Find.get, Find.get_member, Read.max_depth, Read.of_json, Read.of_members, Read.read}
 use Rattle.serde_json.proofs.Views.{get_member-put, get_member-put_other}
 use Rattle.json_texts.specs.Objects.{are_shallow, are_texts, is_shallow, is_text, is_text_or_texts, plain_members, plain_value}
+use Rattle.json.specs.Json as json
+use Rattle.json.specs.Find as json_find
 
 -- ---- what is read
 

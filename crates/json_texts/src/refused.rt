@@ -63,6 +63,7 @@ fn refusal_members(alloc: Global, refusal: Refusal) -> Result<Map<String, Value>
 }
 
 // Adds the refused identifiers, where there are any (RFC 8555, 6.7.1).
+#[tactic(auto, using(crate::proofs::Plain::some_put))]
 fn insert_subproblems(
     members: &mut Map<String, Value>,
     alloc: Global,

@@ -194,6 +194,7 @@ fn is_shallow(value: &TextValue<'_>) -> bool
 /// # Errors
 ///
 /// Where there is no memory for it.
+#[tactic(auto, using(crate::proofs::ReadObjects::whole_read))]
 pub fn object_in<'a>(
     alloc: Global,
     text: &'a str,

@@ -1,18 +1,13 @@
 -- The function that finds the nonce of a text, and decoding into 24 bytes.
-use Rattle.std.proofs.Common.{◌≡◌, ℕ, take, drop, List, [], ◌∷◌, ◌++◌, length, refl, ap, ◌∙◌, arith, Option, Some, None, rules}
+use Rattle.std.proofs.Common.{◌≡◌, ℕ, take, drop, List, [], ◌++◌, length, refl, ap, ◌∙◌, arith, Option, Some, None, rules}
 use Rattle.std.proofs.{lemmas.List.append-nil, lemmas.Bool.Decides.nat_tests}
 use Rattle.std.specs.Prelude.{◌==◌, replicate, option_and_then, if◌then◌else◌}
-use Rattle.std.specs.{declared.result.Result.Result, declared.result.Result.TheVariants.Ok, declared.result.Result.TheVariants.Err, Int.w64, Int.from_be_bytes}
+use Rattle.std.specs.{declared.result.Result.Result, declared.result.Result.TheVariants.Ok, declared.result.Result.TheVariants.Err}
 use Rattle.base64.specs.GeneralPurpose.{IsBytes, decode_of, decoded_bytes_of, decode_slice_of}
 use Rattle.base64.specs.{declared.decode.DecodeError.DecodeError, Engines.url_safe_no_pad}
 use Rattle.base64.proofs.EngineFacts.{decode_of_strict}
 use Rattle.desk_model.specs.Tokens.{NonceText, base64url, from_base64url, nonce_in, number_from}
 use Rattle.keys.proofs.Nonces.{decodes_whole, length-base64url, slice_of_decode}
-
--- eight bytes write one number
-pub number_from-from_be_bytes : (bs : List ℕ) → length bs ≡ 8 → number_from 0 bs ≡ from_be_bytes w64 bs
-number_from-from_be_bytes (a ∷ b ∷ c ∷ d ∷ e ∷ f ∷ g ∷ k ∷ []) h = omega arith
-number_from-from_be_bytes _ h = absurd (omega arith)
 
 -- the nonce of what a text decodes to, and of the outcome of decoding
 abbrev nonce_by : Option (List ℕ) → Option NonceText

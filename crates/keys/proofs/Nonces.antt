@@ -1,9 +1,8 @@
 -- Decoding into 24 bytes is the inverse of the text of a nonce.
-use Rattle.std.proofs.Common.{◌≡◌, ℕ, zero, suc, take, drop, ◌*◌, ◌/◌, ◌%◌, ◌<◌, Bool, false, List, [], ◌∷◌, ◌++◌, length, refl, ap, ◌∙◌, arith, Option, None}
-use Rattle.std.proofs.Common.{rules}
-use Rattle.std.proofs.{lemmas.List.append-nil, lemmas.List.take-append-drop, lemmas.Nat.be_bytes_8}
+use Rattle.std.proofs.Common.{◌≡◌, ℕ, zero, suc, drop, ◌*◌, ◌/◌, ◌%◌, ◌<◌, Bool, false, List, [], ◌∷◌, ◌++◌, length, refl, ap, ◌∙◌, arith, Option, None, rules}
+use Rattle.std.proofs.lemmas.List.{append-nil}
 use Rattle.std.specs.{Prelude.nat_lt, Prelude.replicate, Prelude.if◌then◌else◌, declared.result.Result.Result, declared.result.Result.TheVariants.Ok}
-use Rattle.std.specs.{declared.result.Result.TheVariants.Err, Int.w64, Int.to_be_bytes, Int.from_be_bytes}
+use Rattle.std.specs.{declared.result.Result.TheVariants.Err, Int.w64, Int.to_be_bytes}
 use Rattle.base64.specs.Decode.{or_error, or_else, bytes_fit, lone_error, groups_error, suffix_error, decode_outcome, groups_before_last}
 use Rattle.base64.specs.GeneralPurpose.{IsBytes, decode_of, decoded_bytes_of, decode_slice_of}
 use Rattle.base64.specs.{declared.engine.general_purpose.GeneralPurpose.GeneralPurpose, Engines.url_safe_no_pad}
@@ -64,13 +63,6 @@ nonce_decodes b h bytes =
     let r = slice_of_decode url_safe_no_pad (base64url b) b 24 whole (rw (length-base64url b h) refl) (rw h refl) in
     let ok : ℕ → Result ℕ DecodeSliceError = λ n. Ok n in r ∙ ap ok h
 
--- the first of bytes below 256
-IsBytes-drop : (n : ℕ) (xs : List ℕ) → IsBytes xs → IsBytes (take n xs)
-IsBytes-drop zero xs h i = omega arith
-IsBytes-drop (suc n) [] h i = omega arith
-IsBytes-drop (suc n) (x ∷ xs) h zero = h 0
-IsBytes-drop (suc n) (x ∷ xs) h (suc i) = IsBytes-drop n xs (λ j. h (suc j)) i
-
 -- a byte is below 256
 mod_byte : (n : ℕ) → n % 256 < 256
 mod_byte n = omega arith
@@ -86,13 +78,6 @@ eight a b c d e f g h (suc (suc (suc (suc (suc zero))))) = mod_byte f
 eight a b c d e f g h (suc (suc (suc (suc (suc (suc zero)))))) = mod_byte g
 eight a b c d e f g h (suc (suc (suc (suc (suc (suc (suc zero))))))) = mod_byte h
 eight a b c d e f g h (suc (suc (suc (suc (suc (suc (suc (suc i)))))))) = omega arith
-
--- the number and the rest of 24 bytes
-pub parts_whole : (bytes front back : List ℕ) (n : ℕ) → front ≡ take 8 bytes → back ≡ drop 8 bytes → length front ≡ 8 → IsBytes bytes
-    → n ≡ from_be_bytes w64 front → to_be_bytes w64 n ++ back ≡ bytes
-parts_whole bytes front back n f b len range eq =
-    let low : IsBytes front = rw f (IsBytes-drop 8 bytes range) in
-    ap (λ x. x ++ back) (be_bytes_8 front n len low eq) ∙ rw (f, b) (take-append-drop 8 bytes)
 
 -- what was decoded is what the text spells
 pub nonce_of_decoded : (s new r : List ℕ) (n : ℕ) → IsBytes s → decode_slice_of url_safe_no_pad s 24 ≡ Ok 24

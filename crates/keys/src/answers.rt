@@ -92,6 +92,7 @@ pub fn http_matches(body: &[u8], expected: &str) -> bool
 }
 
 /// Whether one of the TXT records is the expected text (RFC 8555, 8.4).
+#[tactic(auto, unfolding(desk_model::specs::Tokens::records_match))]
 pub fn dns_matches(records: &[Text], expected: &str) -> bool
     ensures matching { IsTrue result ↔ Any (λ entry. entry ≡ expected.now) records.now }
     ensures value { result ≡ records_match records.now expected.now }

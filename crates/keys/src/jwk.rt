@@ -36,6 +36,7 @@ impl From<AllocError> for KeyFault {
 /// # Errors
 ///
 /// Where there is no memory.
+#[tactic(auto, using(crate::proofs::KeyReadings::none_computed))]
 pub fn key_of(alloc: Global, value: &Value) -> Result<Option<Jwk>, AllocError>
     ensures { IfOk result (λ key. key ≡ key_text_in (view value.now)) }
 {

@@ -28,6 +28,7 @@ pub fn from_base64url(alloc: Global, text: &str) -> Result<Option<Vec<u8>>, Allo
 }
 
 /// The text of bytes in base64, in the URL-safe alphabet without padding.
+#[tactic(auto, unfolding(desk_model::specs::Tokens::base64url))]
 pub(crate) fn url_safe(alloc: Global, bytes: &[u8]) -> Result<String, AllocError>
     ensures { IfOk result (λ t. string_bytes t ≡ base64url bytes.now) }
 {
@@ -62,6 +63,7 @@ pub fn nonce_text(alloc: Global, serial: u64, random: [u8; 16]) -> Result<String
 }
 
 /// The serial and the random bytes of a nonce's text, or `None` where it is the text of none.
+#[tactic(auto, using(crate::proofs::NonceTexts::no_nonce_in, crate::proofs::Nonces::nonce_of_decoded, crate::proofs::Nonces::nonce_of_decodes))]
 pub fn read_nonce(text: &str) -> Option<(u64, [u8; 16])>
     ensures undoes { MatchOption result
         ((serial : ℕ) (random : List ℕ) → serial < 2 ^ 64 → length random ≡ 16 → IsBytes random → text.now ≢ text_of_nonce serial random)

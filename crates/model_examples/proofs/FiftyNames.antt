@@ -2,14 +2,13 @@
 use Rattle.std.specs.Prelude.{◌≡◌, refl, ℕ, Bool, true, not, ◌&&◌, ◌==◌, List, [], ◌∷◌, map, Option, Some}
 use Rattle.std.specs.{Cmp.Lexicographic.bytes_decides, List.list_all, List.list_any}
 use Rattle.std.proofs.{Common.ap, Common.◌∙◌, Common.bytes_eq, lemmas.Bool.and_parts, lemmas.Bool.not-true}
-use Rattle.desk_model.specs.{BaseName.is_base_name, Names.name_of, Name.Name, Tables.Tables, Rules.subproblems, Rules.names_in, Rules.kept, Rules.wanted}
-use Rattle.desk_model.specs.{Rules.order_of, Rules.new_order_verdict, Verdict.check, Verdict.given, declared.verdict.Verdict.TheVariants.Orders as orders}
-use Rattle.desk_model.specs.{declared.entry.Wanted.Wanted, declared.payload.Identifier.Identifier, declared.reply.Subproblem.Subproblem}
-use Rattle.desk_model.specs.declared.refusal.Refusal.TheVariants as refusal
+use Rattle.desk_model.specs.Rules.{subproblems, names_in, kept, wanted, order_of, new_order_verdict}
+use Rattle.desk_model.specs.{BaseName.is_base_name, Names.name_of, Name.Name, Tables.Tables, Verdict.check, Verdict.given, declared.reply.Subproblem.Subproblem}
+use Rattle.desk_model.specs.{declared.verdict.Verdict.TheVariants.Orders as orders, declared.entry.Wanted.Wanted, declared.payload.Identifier.Identifier}
 use Rattle.model_examples.proofs.{Computing.computing, PlainNames.is_marked, PlainNames.is_plain, PlainNames.lowered, PlainNames.plain_name}
-use Rattle.model_examples.specs.Calls.{simple, zeros}
-use Rattle.model_examples.specs.Fifty.{bare, names, identifier, AreNames, FiftyIdentifiers, FiftyNames, FiftyFaultless, FiftyTaken, FiftyKept, FiftyWanted}
-use Rattle.model_examples.specs.Fifty.{FiftyOrdered}
+use Rattle.model_examples.specs.{Calls.simple, Calls.zeros, Fifty.bare, Fifty.names, Fifty.identifier, Fifty.AreNames, Fifty.FiftyIdentifiers, Fifty.FiftyNames}
+use Rattle.model_examples.specs.{Fifty.FiftyFaultless, Fifty.FiftyTaken, Fifty.FiftyKept, Fifty.FiftyWanted, Fifty.FiftyOrdered}
+use Rattle.desk_model.specs.declared.refusal.Refusal.TheVariants as refusal
 
 -- the text is plain, and a name in its own spelling
 abbrev is_simple : List ℕ → Bool

@@ -1,14 +1,13 @@
 -- The first order, and what its names make (RFC 8555, 7.1.3, 7.1.4, 7.4): its names are read once, for its verdict.
 use Rattle.std.specs.Prelude.{◌≡◌, ℕ, List, [], ◌∷◌, map, codes, Option, Some, None, if◌then◌else◌, not, nat_lt, ◌*◌, refl}
 use Rattle.std.proofs.Common.{ap, ◌∙◌}
-use Rattle.desk_model.specs.Decide.{Decision, after, decide, nonce_entries, passed_decision, tables_after}
-use Rattle.desk_model.specs.Run.{Ran, and_reply, count_pieces, run, unless_faulty}
-use Rattle.desk_model.specs.{History.record_all, Legal.numbers_fit, Names.name_of, Tables.Tables, Rules.new_order_verdict, Rules.wanted}
-use Rattle.desk_model.specs.{declared.verdict.Verdict.Verdict, declared.verdict.Verdict.TheVariants.Orders as orders}
+use Rattle.desk_model.specs.{Decide.Decision, Decide.after, Decide.decide, Decide.nonce_entries, Decide.passed_decision, Decide.tables_after, Run.Ran}
+use Rattle.desk_model.specs.{Run.and_reply, Run.count_pieces, Run.run, Run.unless_faulty, History.record_all, Legal.numbers_fit, Names.name_of, Tables.Tables}
+use Rattle.desk_model.specs.{Rules.new_order_verdict, Rules.wanted, declared.verdict.Verdict.Verdict, declared.verdict.Verdict.TheVariants.Orders as orders}
 use Rattle.model_examples.proofs.{Computing.computing, PlainNames.plain_name}
-use Rattle.model_examples.specs.{Accounts.with_fifth_nonce, Calls.zeros, Computed.computed, Entries.History, Fifty.identifier}
 use Rattle.model_examples.specs.Orders.{ordering, example_org, any_example_org, FirstOrder, EnoughRandom, ShortRandomKeepsNonce, ShortRandomRecordsNothing}
 use Rattle.model_examples.specs.Orders.{FirstCalls}
+use Rattle.model_examples.specs.{Accounts.with_fifth_nonce, Calls.zeros, Computed.computed, Entries.History, Fifty.identifier}
 
 -- each spelling is read
 upper_case : name_of (codes "Example.ORG") ≡ Some example_org

@@ -1,15 +1,14 @@
 -- What may follow a history is what its tables allow.
-use Rattle.std.proofs.Common.{◌≡◌, ◌≤◌, ◌<◌, ℕ, ◌+◌, List, [], ◌∷◌, map, filter, Option, Some, refl, sym, ap, ◌∙◌, true, false, Bool, cond, arith}
+use Rattle.std.proofs.Common.{◌≡◌, ◌≤◌, ◌<◌, ℕ, ◌+◌, List, [], ◌∷◌, map, filter, Option, refl, sym, ap, ◌∙◌, true, false, Bool, arith}
 use Rattle.std.specs.Prelude.{IsTrue, ◌==◌, ◌&&◌, is_some, is_none, find, bytes_eq}
 use Rattle.std.specs.{List.list_any, Option.option_map}
 use Rattle.desk_model.specs.Authorization.{authorizations, authorization_of, has_challenge, authorization_status, challenge_status, is_live, is_pending}
 use Rattle.desk_model.specs.Legal.{EachFollows, IsFormed, may_follow, is_pending_challenge, is_processing_challenge, is_problem}
 use Rattle.desk_model.specs.Tables.{account_row, challenge_row, authorization_row, order_row, tables_at}
-use Rattle.desk_model.specs.declared.entry.Entry.TheVariants.{Made as made, Issued as issued, Spent as spent, Opened as opened}
+use Rattle.desk_model.specs.declared.entry.Entry.TheVariants.{Made as made, Issued as issued, Spent as spent, Opened as opened, Failed as failed}
 use Rattle.desk_model.specs.declared.entry.Entry.TheVariants.{ContactsChanged as contacts_changed, KeyChanged as key_changed, AccountEnded as account_ended}
 use Rattle.desk_model.specs.declared.entry.Entry.TheVariants.{Ordered as ordered, Answered as answered, Reported as reported}
 use Rattle.desk_model.specs.declared.entry.Entry.TheVariants.{AuthorizationEnded as authorization_ended, Finalized as finalized, Certified as certified}
-use Rattle.desk_model.specs.declared.entry.Entry.TheVariants.{Failed as failed}
 use Rattle.desk_model.specs.{Lookup.holds, Entry.History, Contact.contacts_pass, Effect.has_row, Nonce.nonces, Nonce.is_open, Account.accounts}
 use Rattle.desk_model.specs.{Account.account_by_key, Account.is_valid as is_valid_account, Order.orders, Order.is_processing, History.clock, Limits.last_moment}
 use Rattle.desk_model.specs.{Allowed.may_on, Allowed.challenge_passes, declared.status.ChallengeStatus.ChallengeStatus, declared.entry.Entry.Entry}
@@ -54,18 +53,7 @@ challenge_allowed F m test n =
         ≡ holds (λ a. is_pending (authorization_status a F m)
         && holds (λ c. test c.status) (find (λ c. n == c.number) (map (challenge_row F a.account) a.challenges))) (find (has_challenge n) xs)
     go [] = refl
-    go (x ∷ xs) = by (has_challenge n x) refl (go xs)
-      where
-        by : (b : Bool) → has_challenge n x ≡ b →
-            (holds (λ a. is_pending (authorization_status a F m)) (find (has_challenge n) xs) && test (challenge_status n F))
-            ≡ holds (λ a. is_pending (authorization_status a F m)
-            && holds (λ c. test c.status) (find (λ c. n == c.number) (map (challenge_row F a.account) a.challenges))) (find (has_challenge n) xs) →
-            (holds (λ a. is_pending (authorization_status a F m)) (cond b (Some x) (find (has_challenge n) xs)) && test (challenge_status n F))
-            ≡ holds (λ a. is_pending (authorization_status a F m)
-            && holds (λ c. test c.status) (find (λ c. n == c.number) (map (challenge_row F a.account) a.challenges))) (cond b (Some x)
-            (find (has_challenge n) xs))
-        by true e ih = ap (λ b. is_pending (authorization_status x F m) && b) (sym (challenge_found F test n x.account x.challenges e))
-        by false e ih = ih
+    go (x ∷ xs) = grind (arith, challenge_found, (go xs))
 
 -- ---- nonces
 

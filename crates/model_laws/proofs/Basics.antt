@@ -1,5 +1,5 @@
 -- Small lemmas on options and lists.
-use Rattle.std.proofs.Common.{◌≡◌, ◌<◌, ℕ, ◌+◌, List, [], ◌∷◌, ◌++◌, length, map, Option, Some, None, refl, ap, subst, true, false, Bool, cond, arith}
+use Rattle.std.proofs.Common.{◌≡◌, ◌<◌, ℕ, ◌+◌, List, [], ◌∷◌, ◌++◌, length, map, Option, Some, None, refl, ap, ◌∙◌, subst, true, false, Bool, cond, arith}
 use Rattle.std.specs.{Prelude.◌==◌, Prelude.◌||◌, Prelude.find, Prelude.is_some, Prelude.IsSome, List.list_any, Option.option_map}
 use Rattle.desk_model.specs.{History.earlier, Kept.EachOf, Lookup.holds}
 
@@ -63,6 +63,11 @@ map-moved f move g (x ∷ xs) h = λ i. h.0 i ∷ map-moved f move g xs h.1 i
 pub find-map : {X Y : Type 0} (p : Y → Bool) (f : X → Y) (xs : List X) → find p (map f xs) ≡ option_map f (find (λ x. p (f x)) xs)
 find-map p f [] = refl
 find-map p f (x ∷ xs) = grind (arith, (find-map p f xs))
+
+-- a test that a move leaves passes the moved items that it passed
+pub find-moved : {X : Type 0} (test : X → Bool) (move : X → X) (xs : List X) → ((x : X) → test (move x) ≡ test x)
+    → find test (map move xs) ≡ option_map move (find test xs)
+find-moved test move xs same = find-map test move xs ∙ (λ i. option_map move (find (λ x. same x i) xs))
 
 -- what is found stays found
 pub find-append : {X : Type 0} (p : X → Bool) (xs ys : List X) (x : X) → find p xs ≡ Some x → find p (xs ++ ys) ≡ Some x

@@ -1,15 +1,15 @@
 -- Several entries on a part.
 use Rattle.std.proofs.Common.{◌≡◌, ◌≤◌, ◌<◌, ℕ, ◌+◌, List, [], ◌∷◌, ◌++◌, map, filter, refl, ap, ◌∙◌, true, Bool, cond, arith, rules}
 use Rattle.desk_model.specs.Effect.{noted_order, touches_account, touches_order, moved_account, moved_authorization, moved_order, fresh_account}
-use Rattle.desk_model.specs.Effect.{fresh_authorization, fresh_order, not_spent, new_authorizations, authorizations_after, effect, effects, swept}
+use Rattle.desk_model.specs.Effect.{fresh_authorization, not_spent, new_authorizations, authorizations_after, effect, effects, swept}
 use Rattle.desk_model.specs.Kept.{Kept, restricted, EachOf, IsClosed, CoversSweep, HoldersKept}
-use Rattle.desk_model.specs.{Entry.History, Legal.EachFollows, Nonce.issued_by, Account.opened_by, Order.ordered_by, History.clock, History.record_all}
-use Rattle.desk_model.specs.{Tables.Tables, Tables.picture, Derived.numbers_of, Derived.restated_authorization, Derived.restated_order, Change.all_changes}
+use Rattle.desk_model.specs.{Entry.History, Legal.EachFollows, Nonce.issued_by, Account.opened_by, History.clock, History.record_all}
+use Rattle.desk_model.specs.{Tables.Tables, Tables.picture, Derived.numbers_of, Derived.restated_authorization, Change.all_changes}
 use Rattle.desk_model.specs.{Change.recorded_changes, Change.applied, declared.entry.Entry.Entry, declared.rows.AccountRow.AccountRow}
 use Rattle.desk_model.specs.{declared.rows.AuthorizationRow.AuthorizationRow, declared.rows.Change.TheVariants.PutMeta, declared.rows.OrderRow.OrderRow}
 use Rattle.model_laws.specs.{Ordered.Ascends, Parts.FreshKept, Parts.CoversAll}
-use Rattle.model_laws.proofs.Recorded.{opened_up, ordered_up, made_up, recorded}
-use Rattle.model_laws.proofs.Local.{all_moved_same, filters_swap, filter_all, moved_part, restated_same, kept_after, moved_number, touches_same, changes_local}
+use Rattle.model_laws.proofs.{PutsDiffer.opened_up, PutsDiffer.ordered_up, PutsDiffer.made_up, Recorded.recorded, Local.changes_local}
+use Rattle.model_laws.proofs.Local.{all_moved_same, fresh_orders, filters_swap, filter_all, moved_part, restated_same, kept_after, moved_number, touches_same}
 use Rattle.model_laws.proofs.Local.{sweep_changes_local, swept_part}
 use Rattle.model_laws.proofs.{Basics.each, Basics.each_all, Basics.one_kept, Step.filter-append}
 
@@ -34,16 +34,6 @@ account_number e m row = one_kept (λ (a : AccountRow). a.number) (touches_accou
 -- a moved order keeps its number
 pub order_number : (e : Entry) (m : ℕ) (before after : List AuthorizationRow) (row : OrderRow) → (moved_order e m before after row).number ≡ row.number
 order_number e m before after row = one_kept (λ (o : OrderRow). o.number) (touches_order e before row) _ row refl
-
--- new orders get the same status from the part as from the whole
-fresh_orders : (k : Kept) (T : Tables) (m : ℕ) (e : Entry) (xs : List _) → HoldersKept k T e →
-    EachOf (λ o. EachOf (λ n. k.authorizations n ≡ true) (numbers_of (fresh_order o).listed)) xs →
-    map (λ o. restated_order m (authorizations_after (restricted k T) e m) (fresh_order o)) xs
-    ≡ map (λ o. restated_order m (authorizations_after T e m) (fresh_order o)) xs
-fresh_orders k T m e [] holders h = refl
-fresh_orders k T m e (o ∷ os) holders h =
-    λ i. restated_same m (authorizations_after (restricted k T) e m) (authorizations_after T e m) (fresh_order o)
-    (kept_after k T e m (numbers_of (fresh_order o).listed) holders h.0) i ∷ fresh_orders k T m e os holders h.1 i
 
 -- the part's authorizations after an entry are the part of those after it
 pub authorizations_part : (k : Kept) (T : Tables) (m : ℕ) (e : Entry) → ((n : ℕ) → T.meta.counters.authorizations < n → k.authorizations n ≡ true) →
@@ -73,11 +63,7 @@ effect_part k T m e closed holders fresh =
       authorizations = authorizations_part k T m e closed.new_authorizations holders i;
       orders =
           part_on (λ (o : OrderRow). o.number) k.orders (moved_order e m (restricted k T).authorizations (authorizations_after (restricted k T) e m))
-          (moved_order e m T.authorizations (authorizations_after T e m)) T.orders
-          (map (λ o. restated_order m (authorizations_after (restricted k T) e m) (fresh_order o))
-          (ordered_by e m T.meta.policy (T.meta.counters.authorizations + 1) (T.meta.counters.orders + 1)))
-          (map (λ o. restated_order m (authorizations_after T e m) (fresh_order o))
-          (ordered_by e m T.meta.policy (T.meta.counters.authorizations + 1) (T.meta.counters.orders + 1)))
+          (moved_order e m T.authorizations (authorizations_after T e m)) T.orders _ _
           (order_number e m T.authorizations (authorizations_after T e m))
           (each _ _ T.orders (λ o all yes.
           (λ j. cond (touches_same k T e o (all yes) j)

@@ -1,41 +1,20 @@
 -- A row that does not differ afterwards is the row itself, and one that differs is another.
-use Rattle.std.proofs.Common.{◌≡◌, ℕ, List, [], ◌∷◌, map, refl, sym, ap, ◌∙◌, true, false, Bool, get_or, not, arith}
+use Rattle.std.proofs.Common.{◌≡◌, ℕ, List, [], ◌∷◌, map, refl, ap, ◌∙◌, false, not, arith}
 use Rattle.std.proofs.{lemmas.Bool.eq-eqb, lemmas.Bool.or_parts, lemmas.Slice.Eq.bytes_eq-Decides, lemmas.Slice.Eq.slice_eq-Decides}
-use Rattle.std.specs.{Prelude.◌==◌, Prelude.◌||◌, Prelude.bytes_eq, Cmp.Lexicographic.pointwise, List.list_any, List.zip}
-use Rattle.desk_model.specs.Derived.{account_code, chall_code, authz_code, order_code, restated_authorization, restated_order}
+use Rattle.std.specs.{Prelude.◌==◌, Prelude.◌||◌, List.list_any, List.zip}
+use Rattle.desk_model.specs.Derived.{chall_code, authz_code, order_code, restated_authorization, restated_order}
 use Rattle.desk_model.specs.Effect.{key_numbered, noted_account, noted_challenge, noted_authorization, noted_order}
 use Rattle.desk_model.specs.Change.{is_gained, account_differs, challenge_differs, authorization_differs, order_differs}
-use Rattle.desk_model.specs.{Account.ends as account_ends, Kept.EachOf, declared.entry.Entry.Entry, declared.rows.AccountRow.AccountRow}
+use Rattle.desk_model.specs.{Kept.EachOf, declared.entry.Entry.Entry, declared.rows.AccountRow.AccountRow, declared.status.AuthzStatus.AuthzStatus}
 use Rattle.desk_model.specs.{declared.rows.ChallengeRow.ChallengeRow, declared.rows.AuthorizationRow.AuthorizationRow, declared.rows.OrderRow.OrderRow}
-use Rattle.desk_model.specs.declared.status.AccountStatus.TheVariants as account
-use Rattle.desk_model.specs.declared.status.AuthzStatus.TheVariants as authz
 use Rattle.model_laws.proofs.{OrderDates.order_dates_kept, OrderDates.order_status_differs, RowFacts.kept_challenges, StatedFacts.earlier_stays}
 use Rattle.model_laws.proofs.{StatedFacts.none_gained}
 
 -- ---- statuses by their codes
 
--- the codes of all values of a kind, in their order: a code tells its value
-unfoldable AreCoded : {S : Type 0} → (S → ℕ) → S → List S → Type 0
-AreCoded {S} code first more = (s : S) → get_or (first ∷ more) (code s) first ≡ s
-
--- of accounts
-account_coded : AreCoded account_code account.Valid (account.Deactivated ∷ account.Revoked ∷ [])
-unfolding AreCoded
-account_coded h = grind arith
-
--- of authorizations
-authz_coded : AreCoded authz_code authz.Pending (authz.Valid ∷ authz.Invalid ∷ authz.Deactivated ∷ authz.Expired ∷ authz.Revoked ∷ [])
-unfolding AreCoded
-authz_coded h = grind arith
-
--- a test whose negation fails
-unnegated : (b : Bool) → not b ≡ false → b ≡ true
-unnegated b h = grind arith
-
--- equal codes are of equal values
-same_coded : {S : Type 0} (code : S → ℕ) (first : S) (more : List S) → AreCoded code first more → (a b : S) → not (code a == code b) ≡ false → b ≡ a
-unfolding AreCoded
-same_coded code first more coded a b h = grind arith
+-- equal codes of authorizations are of equal statuses
+same_status : (a b : AuthzStatus) → not (authz_code a == authz_code b) ≡ false → b ≡ a
+same_status a b h = grind arith
 
 -- a value's code is its own
 own_code : (n : ℕ) → not (n == n) ≡ false
@@ -43,26 +22,9 @@ own_code n = ap not (eq-eqb n n refl)
 
 -- ---- accounts
 
--- contacts that do not differ are equal
-same_contacts : (xs ys : List (List ℕ)) → not (pointwise bytes_eq xs ys) ≡ false → ys ≡ xs
-same_contacts xs ys h = sym ((slice_eq-Decides bytes_eq-Decides xs ys (pointwise bytes_eq xs ys) refl).0 (unnegated (pointwise bytes_eq xs ys) h))
-
--- keys that do not differ are equal
-same_key : (xs ys : List ℕ) → not (bytes_eq xs ys) ≡ false → ys ≡ xs
-same_key xs ys h = sym ((bytes_eq-Decides xs ys).0 (unnegated (bytes_eq xs ys) h))
-
 -- an account's row that does not differ is the same
 pub account_unmoved : (e : Entry) (m : ℕ) (row : AccountRow) → account_differs row (noted_account e m row) ≡ false → noted_account e m row ≡ row
-account_unmoved e m row h =
-    let after : AccountRow = noted_account e m row in
-    let k = or_parts (not (bytes_eq row.key after.key)) _ h in
-    let p = or_parts (not (pointwise bytes_eq row.contacts after.contacts)) _ k.1 in
-    let q = or_parts (is_gained row.ended after.ended) _ p.1 in
-    let key : after.key ≡ row.key = same_key row.key after.key k.0 in
-    let contacts : after.contacts ≡ row.contacts = same_contacts row.contacts after.contacts p.0 in
-    let ended : after.ended ≡ row.ended = earlier_stays row.ended (account_ends row.number e m) q.0 in
-    let status : after.status ≡ row.status = same_coded account_code _ _ account_coded row.status after.status q.1 in
-    λ i. record row { key = key i; contacts = contacts i; ended = ended i; status = status i }
+account_unmoved e m row h = grind (arith, bytes_eq-Decides, slice_eq-Decides, earlier_stays)
 
 -- no account's row differs from itself
 pub account_differs_not : (row : AccountRow) → account_differs row row ≡ false
@@ -100,7 +62,7 @@ authorization_unmoved e m accounts row h =
     let p = or_parts (is_gained row.ended after.ended) _ h in
     let q = or_parts (not (authz_code row.status == authz_code after.status)) _ p.1 in
     let ended : after.ended ≡ row.ended = earlier_stays row.ended _ p.0 in
-    let status : after.status ≡ row.status = same_coded authz_code _ _ authz_coded row.status after.status q.0 in
+    let status : after.status ≡ row.status = same_status row.status after.status q.0 in
     let challenges : after.challenges ≡ row.challenges =
     kept_challenges (noted_challenge e m key) row.challenges (challenges_unmoved e m key row.challenges q.1) in
     λ i. record row { ended = ended i; status = status i; challenges = challenges i }

@@ -2,13 +2,12 @@
 use Rattle.std.proofs.Common.{◌≡◌, ℕ, List, [], ◌∷◌, ◌++◌, map, refl, sym, ap, cond, arith, rules}
 use Rattle.std.proofs.lemmas.Bool.{eq-eqb}
 use Rattle.std.specs.{Prelude.◌==◌, List.flat_map}
-use Rattle.desk_model.specs.{Entry.History, Account.accounts, Order.orders, Legal.EachFollows, Kept.EachOf}
-use Rattle.desk_model.specs.Authorization.{authorizations, challenge_status_by, report}
-use Rattle.desk_model.specs.Tables.{account_row, challenge_row, authorization_row, order_row, tables_at}
-use Rattle.desk_model.specs.Derived.{unless, chall_code, order_code, authz_code, account_faults, order_faults, authorization_faults, challenge_faults}
-use Rattle.desk_model.specs.Derived.{insert_challenge, sorted_challenges, status_faults}
-use Rattle.desk_model.specs.declared.{objects.Authorization.Authorization, objects.Challenge.Challenge, rows.AuthorizationRow.AuthorizationRow}
-use Rattle.desk_model.specs.declared.{rows.ChallengeRow.ChallengeRow, rows.OrderRow.OrderRow, rows.StatusFault.StatusFault}
+use Rattle.desk_model.specs.Derived.{unless, chall_code, order_code, authz_code}
+use Rattle.desk_model.specs.Derived.{account_faults, order_faults, authorization_faults, challenge_faults, insert_challenge, sorted_challenges, status_faults}
+use Rattle.desk_model.specs.{Entry.History, Account.accounts, Legal.EachFollows, Kept.EachOf, Tables.challenge_row, Tables.order_row, Tables.tables_at}
+use Rattle.desk_model.specs.{Order.orders, declared.objects.Challenge.Challenge, declared.rows.ChallengeRow.ChallengeRow, declared.rows.StatusFault.StatusFault}
+use Rattle.desk_model.specs.{Authorization.authorizations, Authorization.report, Tables.account_row, Tables.authorization_row, declared.rows.OrderRow.OrderRow}
+use Rattle.desk_model.specs.{Authorization.challenge_status_by, declared.objects.Authorization.Authorization, declared.rows.AuthorizationRow.AuthorizationRow}
 use Rattle.model_laws.proofs.{Basics.each_all, Basics.each-append, RowFacts.answered_alike, RowFacts.authorization_stated, OrderFacts.order_stated}
 
 -- rows without a fault, one by one

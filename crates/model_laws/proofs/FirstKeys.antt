@@ -1,14 +1,13 @@
 -- Where no account got another key, each answer was under the key that its account has now.
-use Rattle.std.proofs.Common.{◌≡◌, ◌<◌, ℕ, ◌+◌, List, [], ◌∷◌, ◌++◌, length, map, Option, None, sym, ap, subst, Bool, arith}
+use Rattle.std.proofs.Common.{◌≡◌, ℕ, List, [], ◌∷◌, ◌++◌, map, Option, None, sym, ap, subst, Bool, arith}
 use Rattle.std.specs.Prelude.{IfSome, IsSome, find}
-use Rattle.desk_model.specs.Authorization.{answer, answer_by, answering, authorizations, challenges_from, count_challenges, kinds_of, made_by, made_for}
-use Rattle.desk_model.specs.{Account.account_key, Effect.fresh_challenge, Entry.History, Keys.thumbprint, Kept.EachOf, Legal.EachFollows, History.earlier}
-use Rattle.desk_model.specs.{History.terms, Tables.authorization_row, Tables.challenge_row, Tables.tables_at, declared.objects.Answer.Answer}
-use Rattle.desk_model.specs.{declared.objects.Authorization.Authorization, declared.objects.Challenge.Challenge, declared.rows.ChallengeRow.ChallengeRow}
-use Rattle.desk_model.specs.declared.entry.{Dated.Dated, Entry.Entry, Wanted.Wanted, Wanted.TheVariants.New, Wanted.TheVariants.Reused}
+use Rattle.desk_model.specs.{Authorization.answer, Authorization.challenges_from, declared.objects.Challenge.Challenge, declared.rows.ChallengeRow.ChallengeRow}
+use Rattle.desk_model.specs.{Authorization.authorizations, Authorization.kinds_of, Effect.fresh_challenge, Tables.authorization_row, declared.entry.Dated.Dated}
+use Rattle.desk_model.specs.{Account.account_key, Entry.History, Keys.thumbprint, Kept.EachOf, Legal.EachFollows, Tables.challenge_row, Tables.tables_at}
+use Rattle.desk_model.specs.{declared.objects.Answer.Answer, declared.objects.Authorization.Authorization, declared.entry.Entry.TheVariants.Ordered as ordered}
 use Rattle.model_laws.specs.FirstLaws.{AreUnderKeysNow, IsNoKeyChange, IsUnder, KeepsKeys}
-use Rattle.model_laws.proofs.{Basics.each, Basics.each_both, Basics.each-append, Basics.each-map, Fresh.challenges_fresh, RowFacts.key_row}
-use Rattle.model_laws.proofs.{Numbers.challenges_numbered, Numbers.made_now, References.HasAccount, References.authorizations_have_accounts}
+use Rattle.model_laws.proofs.{Basics.each, Basics.each-map, Fresh.challenges_fresh, RowFacts.key_row, References.stays, References.HasAccount}
+use Rattle.model_laws.proofs.{References.orders_for, Numbers.challenges_numbered, NewOrders.each_authorization}
 
 -- ---- the key of an account stays
 
@@ -36,31 +35,18 @@ new_unanswered : (F : History) (account n : ℕ) (cs : List Challenge) → EachO
     → EachOf (λ c. answer account c.number F ≡ None) cs
 new_unanswered F account n cs fresh = each _ _ cs (λ c same. ap (λ (r : ChallengeRow). r.answered) same) fresh
 
--- nor have those of a new order
-made_unanswered : (F : History) (account date expires : ℕ) (ws : List Wanted) (n c : ℕ) → EachFollows F → count_challenges (authorizations F) < c
-    → EachOf (λ a. EachOf (λ x. answer a.account x.number F ≡ None) a.challenges) (made_for account date expires ws n c)
-made_unanswered F account date expires [] n c h low = tt
-made_unanswered F account date expires (New name tokens ∷ ws) n c h low =
-    let cs = challenges_from c (kinds_of name) tokens in (
-      new_unanswered F account c cs (challenges_fresh F account c cs h low (challenges_numbered c (kinds_of name) tokens)),
-      made_unanswered F account date expires ws (n + 1) (c + length cs) h (omega (arith, low)),
-    )
-made_unanswered F account date expires (Reused name k ∷ ws) n c h low = made_unanswered F account date expires ws n c h low
-
 -- in each history in which no account got another key
 pub all_under : (F : History) → EachFollows F → KeepsKeys F → EachOf (AreUnder F) (authorizations F)
-all_under [] h keeps = tt
-all_under (e ∷ F) h keeps =
-    each-append (AreUnder (e ∷ F)) (authorizations F) (made_now e F)
-    (each _ _ (authorizations F) (λ a p. under_still e F a keeps.0 p.0 p.1)
-    (each_both _ _ (authorizations F) (authorizations_have_accounts F h.1) (all_under F h.1 keeps.1)))
-    (more e.entry)
-  where
-    more : (entry : Entry)
-        → EachOf (λ a. EachOf (λ c. IsUnderKey (account_key a.account (e ∷ F))
-        (earlier (answer a.account c.number F) (answer_by (account_key a.account F) (answering c.number entry e.date)))) a.challenges)
-        (made_by entry e.date (terms F).authz_life (length (authorizations F) + 1) (count_challenges (authorizations F) + 1))
-    more k = grind (arith, each, made_unanswered)
+all_under F h keeps =
+    each _ _ (authorizations F) (λ a p. (p keeps).1)
+    (each_authorization (λ G a. KeepsKeys G → HasAccount G a.account × AreUnder G a)
+    (λ e G a p all. let before = p all.1 in (stays e G a.account before.0, under_still e G a all.0 before.0 before.1))
+    (λ G account m ws h name tokens n c few is all. (
+      orders_for G account m ws h.0.allowed,
+      each _ _ (challenges_from c (kinds_of name) tokens)
+          (λ x none. subst (IsUnderKey (account_key account (record { date = m; entry = ordered account ws } ∷ G))) (sym none) tt)
+          (new_unanswered G account c _ (challenges_fresh G account c _ h.1 few (challenges_numbered c (kinds_of name) tokens))),
+    )) F h)
 
 -- and in its tables
 pub rows_under : (F : History) → EachFollows F → KeepsKeys F → (t : ℕ) → AreUnderKeysNow (tables_at F t)

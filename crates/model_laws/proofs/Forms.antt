@@ -2,11 +2,10 @@
 use Rattle.std.proofs.Common.{◌≡◌, ℕ, ◌+◌, List, [], ◌∷◌, length, true, arith}
 use Rattle.std.proofs.lemmas.Bool.{eqb-true, and_parts}
 use Rattle.std.specs.{Prelude.◌==◌, Prelude.IfSome, List.list_all}
-use Rattle.desk_model.specs.{Authorization.authorizations, Authorization.challenges_from, Authorization.kinds_of, Authorization.made_for, BaseName.is_base_name}
-use Rattle.desk_model.specs.{Entry.History, Kept.EachOf, Legal.EachFollows, Legal.Follows, Legal.is_problem, Legal.is_wanted, Nonce.nonces, Order.failure}
-use Rattle.desk_model.specs.{declared.entry.Dated.Dated, declared.entry.Wanted.Wanted, declared.objects.Authorization.Authorization, declared.status.Kind.Kind}
-use Rattle.desk_model.specs.{declared.entry.Wanted.TheVariants.New, declared.entry.Wanted.TheVariants.Reused}
-use Rattle.model_laws.proofs.{Basics.each-append, StatedFacts.first_holds}
+use Rattle.desk_model.specs.{Authorization.authorizations, Authorization.challenges_from, Authorization.kinds_of, BaseName.is_base_name}
+use Rattle.desk_model.specs.{Entry.History, Kept.EachOf, Legal.EachFollows, Legal.Follows, Legal.is_problem, Nonce.nonces, Order.failure}
+use Rattle.desk_model.specs.{declared.entry.Dated.Dated, declared.objects.Authorization.Authorization, declared.status.Kind.Kind}
+use Rattle.model_laws.proofs.{Basics.each-append, NewOrders.each_authorization, StatedFacts.first_holds}
 
 -- ---- random bytes
 
@@ -28,21 +27,13 @@ challenges_drawn number (kind ∷ kinds) (token ∷ tokens) h =
     let p = and_parts (length token == 16) _ h in
     (eqb-true (length token) 16 p.0, challenges_drawn (number + 1) kinds tokens p.1)
 
--- authorizations that are made for well-formed names
-made_for_drawn : (account date expires : ℕ) (ws : List Wanted) (n c : ℕ) → list_all is_wanted ws ≡ true →
-    EachOf HasTokens (made_for account date expires ws n c)
-made_for_drawn account date expires [] n c h = tt
-made_for_drawn account date expires (New name tokens ∷ ws) n c h =
-    let p = and_parts (is_wanted (New name tokens)) _ h in
-    let q = and_parts (is_base_name name.base) _ p.0 in
-    let r = and_parts (length tokens == length (kinds_of name)) _ q.1 in
-    (challenges_drawn c (kinds_of name) tokens r.1, made_for_drawn account date expires ws (n + 1) _ p.1)
-made_for_drawn account date expires (Reused name k ∷ ws) n c h = made_for_drawn account date expires ws n c (and_parts (is_wanted (Reused name k)) _ h).1
-
 -- each token has 16 bytes
 pub tokens_drawn : (F : History) → EachFollows F → EachOf HasTokens (authorizations F)
-tokens_drawn [] h = tt
-tokens_drawn (e ∷ F) h = grind (arith, each-append, made_for_drawn, (tokens_drawn F h.1))
+tokens_drawn =
+    each_authorization (λ F. HasTokens) (λ e F a p. p)
+    (λ F account m ws h name tokens n c few is.
+    let drawn = (and_parts (is_base_name name.base) _ is).1 in
+    challenges_drawn c (kinds_of name) tokens (and_parts (length tokens == length (kinds_of name)) _ drawn).1)
 
 -- ---- problems
 

@@ -1,22 +1,20 @@
 -- What is made new has no facts yet: an entry names only what was made before it.
-use Rattle.std.proofs.Common.{◌≡◌, ◌≤◌, ◌<◌, ℕ, ◌+◌, List, [], ◌∷◌, length, map, Option, Some, None, refl, ap, ◌∙◌, subst, true, false, Bool, cond, arith}
+use Rattle.std.proofs.Common.{◌≡◌, ◌≤◌, ◌<◌, ℕ, ◌+◌, List, [], ◌∷◌, length, map, None, refl, ap, ◌∙◌, true, false, arith}
 use Rattle.std.proofs.lemmas.Bool.{eqb-true}
 use Rattle.std.specs.{Prelude.◌==◌, Prelude.◌||◌, Prelude.find, Prelude.is_some, List.list_any}
-use Rattle.desk_model.specs.Account.{accounts, opened_by, account_by_number, account_end, account_key, account_status, rekeying, ends as account_ends}
-use Rattle.desk_model.specs.Account.{status_of as account_status_of, is_valid as is_valid_account}
-use Rattle.desk_model.specs.Authorization.{authorizations, has_challenge, made_for, kinds_of, challenges_from, count_challenges, authorization_end, ends}
-use Rattle.desk_model.specs.Authorization.{in_time, answering, reporting, answer, answer_by, when_answered, report, challenge_status_by}
+use Rattle.desk_model.specs.Account.{accounts, opened_by, account_by_number, account_key, account_status, ends as account_ends, is_valid as is_valid_account}
+use Rattle.desk_model.specs.Account.{rekeying}
+use Rattle.desk_model.specs.Authorization.{authorizations, has_challenge, count_challenges, authorization_end, answering, when_answered, challenge_status_by}
+use Rattle.desk_model.specs.Authorization.{kinds_of, ends, in_time, reporting, answer, answer_by, report}
 use Rattle.desk_model.specs.Tables.{account_row, challenge_row, authorization_row, order_row, row_of_challenge}
 use Rattle.desk_model.specs.Effect.{names_order, fresh_account, fresh_challenge, fresh_authorization, fresh_order}
-use Rattle.desk_model.specs.{Entry.History, Lookup.holds, Legal.EachFollows, Kept.EachOf, History.terms, History.first, History.earlier, Order.orders}
-use Rattle.desk_model.specs.{Order.ordered_by, Order.listed_by, Derived.restated_authorization, Derived.restated_order, declared.entry.Dated.Dated}
-use Rattle.desk_model.specs.{declared.entry.Entry.Entry, declared.entry.Wanted.Wanted, declared.objects.Account.Account, declared.objects.AccountEnd.AccountEnd}
-use Rattle.desk_model.specs.{declared.objects.Authorization.Authorization, declared.objects.Challenge.Challenge, declared.objects.Order.Order}
-use Rattle.desk_model.specs.{declared.rows.AuthorizationRow.AuthorizationRow, declared.entry.Entry.TheVariants.Ordered as ordered}
-use Rattle.desk_model.specs.{declared.entry.Wanted.TheVariants.New, declared.entry.Wanted.TheVariants.Reused}
-use Rattle.model_laws.proofs.Basics.{less_differs, each, each_both, map-each, IsNumbered}
-use Rattle.model_laws.proofs.{OrderDates.order_unnoted, RowFacts.authorization_stated, OrderFacts.order_stated}
+use Rattle.desk_model.specs.{Entry.History, Kept.EachOf, History.terms, History.first, History.earlier, Order.orders, Order.ordered_by, Order.listed_by}
+use Rattle.desk_model.specs.{Lookup.holds, declared.objects.Account.Account, declared.objects.Authorization.Authorization, declared.objects.Challenge.Challenge}
+use Rattle.desk_model.specs.{Legal.EachFollows, Derived.restated_authorization, Derived.restated_order, declared.entry.Dated.Dated, declared.entry.Entry.Entry}
+use Rattle.desk_model.specs.{declared.objects.Order.Order, declared.rows.AuthorizationRow.AuthorizationRow, declared.entry.Entry.TheVariants.Ordered as ordered}
 use Rattle.model_laws.proofs.Numbers.{no_first, no_latest, first_no, made_now, challenges_numbered, all_named}
+use Rattle.model_laws.proofs.{Basics.less_differs, Basics.each, Basics.each_both, Basics.map-each, Basics.IsNumbered, OrderDates.order_unnoted}
+use Rattle.model_laws.proofs.{RowFacts.authorization_stated, OrderFacts.order_stated, NewOrders.each_made, NewOrders.made_one, NewOrders.may_be_ordered}
 use Rattle.model_laws.specs.Given.{Counts, counts, NamesGiven}
 
 -- ---- new rows
@@ -111,46 +109,27 @@ authorization_fresh F e m a c h alive new free numbered = (
   map-each (challenge_row F a.account) fresh_challenge a.challenges (challenges_fresh F a.account c a.challenges h free numbered),
 )
 
--- new authorizations of an order
-made_fresh : (F : History) (k m : ℕ) (ws : List Wanted) (expires : ℕ) (vs : List Wanted) (n c : ℕ) →
-    EachFollows (record { date = m; entry = ordered k ws } ∷ F) →
-    first (λ d. account_ends k d.entry d.date) F ≡ None → length (authorizations F) < n → count_challenges (authorizations F) < c →
-    EachOf (λ a. authorization_row (record { date = m; entry = ordered k ws } ∷ F) m a ≡ restated_authorization m (fresh_authorization a))
-    (made_for k m expires vs n c)
-made_fresh F k m ws expires [] n c h alive new free = tt
-made_fresh F k m ws expires (New name tokens ∷ vs) n c h alive after free =
-    let G : History = record { date = m; entry = ordered k ws } ∷ F in
-    let a : Authorization =
-    record { number = n; account = k; name = name; made = m; expires = expires; challenges = challenges_from c (kinds_of name) tokens } in
-    let p = authorization_fresh F (ordered k ws) m a c h.1 alive after free (challenges_numbered c (kinds_of name) tokens) in (
-      authorization_stated G h m m a ∙ (λ i. restated_authorization m (record (authorization_row G m a) { ended = p.0 i; challenges = p.1 i })),
-      made_fresh F k m ws expires vs (n + 1) (c + length (challenges_from c (kinds_of name) tokens)) h alive (omega arith) (omega arith),
-    )
-made_fresh F k m ws expires (Reused name j ∷ vs) n c h alive new free = made_fresh F k m ws expires vs n c h alive new free
-
 -- an account that is valid has not ended
 account_alive : (F : History) (n : ℕ) → holds (λ a. is_valid_account (account_status a F)) (account_by_number n F) ≡ true →
     first (λ d. account_ends n d.entry d.date) F ≡ None
 account_alive F n h = by (accounts F) h
   where
-    unended : (o : Option AccountEnd) → is_valid_account (account_status_of o) ≡ true → o ≡ None
-    unended o l = grind arith
-
     by : (xs : List Account) → holds (λ a. is_valid_account (account_status a F)) (find (λ a. a.number == n) xs) ≡ true →
         first (λ d. account_ends n d.entry d.date) F ≡ None
     by [] h = cc
-    by (x ∷ xs) h = one (x.number == n) refl h (by xs)
-      where
-        one : (b : Bool) → (x.number == n) ≡ b →
-            holds (λ a. is_valid_account (account_status a F)) (cond b (Some x) (find (λ a. a.number == n) xs)) ≡ true
-            → (holds (λ a. is_valid_account (account_status a F)) (find (λ a. a.number == n) xs) ≡ true → first (λ d. account_ends n d.entry d.date) F
-            ≡ None) → first (λ d. account_ends n d.entry d.date) F ≡ None
-        one true e h ih = subst (λ k. first (λ d. account_ends k d.entry d.date) F ≡ None) (eqb-true x.number n e) (unended (account_end x F) h)
-        one false e h ih = ih h
+    by (x ∷ xs) h = grind (arith, eqb-true, (by xs))
 
 -- new authorizations
 pub authorizations_fresh : (F : History) (e : Entry) (m : ℕ) → EachFollows (record { date = m; entry = e } ∷ F) →
     EachOf (λ a. authorization_row (record { date = m; entry = e } ∷ F) m a ≡ restated_authorization m (fresh_authorization a))
     (made_now (record { date = m; entry = e }) F)
-authorizations_fresh F (ordered k ws) m h = grind (arith, made_fresh, account_alive)
+authorizations_fresh F (ordered k ws) m h =
+    let G : History = record { date = m; entry = ordered k ws } ∷ F in
+    let order = may_be_ordered F m k ws h.0.allowed in
+    each_made _ k m _ ws _ _ order.wanted
+    (λ name tokens n c (low : length (authorizations F) + 1 ≤ n) (few : count_challenges (authorizations F) + 1 ≤ c) is.
+    let a : Authorization = made_one k m (m + (terms F).authz_life) name tokens n c in
+    let p = authorization_fresh F (ordered k ws) m a c h.1 (account_alive F k order.holder) (omega arith) (omega arith)
+    (challenges_numbered c (kinds_of name) tokens) in
+    authorization_stated G h m m a ∙ (λ i. restated_authorization m (record (authorization_row G m a) { ended = p.0 i; challenges = p.1 i })))
 authorizations_fresh F _ m h = tt

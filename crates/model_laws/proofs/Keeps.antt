@@ -2,19 +2,17 @@
 use Rattle.std.proofs.Common.{◌≡◌, ◌≢◌, ◌≤◌, ℕ, ◌+◌, List, [], ◌∷◌, length, filter, Option, Some, None, refl, sym, ap, ◌∙◌, true, false, Bool, cond, arith}
 use Rattle.std.proofs.{lemmas.Bool.and_parts, lemmas.Slice.Eq.bytes_eq-Decides, lemmas.Bool.Decides.nat_tests}
 use Rattle.std.specs.Prelude.{◌==◌, IfSome, IsTrue, find, is_none, is_some, bytes_eq, unwrap_or}
-use Rattle.std.specs.List.{list_all}
 use Rattle.desk_model.specs.Account.{account_by_key, accounts, key_of, opened_by, rekeying}
-use Rattle.desk_model.specs.Authorization.{authorizations, made_for, report, reporting, kinds_of, challenges_from}
-use Rattle.desk_model.specs.Legal.{EachFollows, IsFormed, BeginsMade, Legal, is_wanted, may_follow, numbers_fit}
+use Rattle.desk_model.specs.Authorization.{authorizations, report, reporting}
+use Rattle.desk_model.specs.Legal.{EachFollows, IsFormed, BeginsMade, Legal, may_follow, numbers_fit}
 use Rattle.desk_model.specs.{BaseName.is_base_name, Contact.contacts_pass, Entry.History, Keys.IsKeyText, Kept.EachOf, History.latest, History.terms}
 use Rattle.desk_model.specs.{Limits.last_end, Limits.last_moment, Limits.longest_life, Nonce.nonces, Order.orders, Tables.account_row, Tables.authorization_row}
 use Rattle.desk_model.specs.{Tables.tables_at, Terms.Terms, Terms.are_terms, declared.objects.Account.Account}
-use Rattle.desk_model.specs.declared.entry.{Dated.Dated, Entry.Entry, Wanted.Wanted, Entry.TheVariants.Made as made, Entry.TheVariants.Opened as opened}
-use Rattle.desk_model.specs.declared.entry.{Entry.TheVariants.KeyChanged as key_changed, Wanted.TheVariants.New, Wanted.TheVariants.Reused}
+use Rattle.desk_model.specs.declared.entry.{Dated.Dated, Entry.Entry, Entry.TheVariants.Opened as opened, Entry.TheVariants.KeyChanged as key_changed}
 use Rattle.model_laws.specs.{Distinct.Distinct, Given.counts, LegalLaws.CountersFit, LegalLaws.EndsInTime, LegalLaws.reports_on}
 use Rattle.model_laws.proofs.{Basics.each, Basics.each_both, Basics.each-append, Basics.each-map, Distinctness.ascends_distinct, Distinctness.distinct-append}
 use Rattle.model_laws.proofs.{Distinctness.distinct-map, Fresh.new_account_key, RowLists.numbered_ascends, StatedFacts.latest_holds, StatedFacts.now_holds}
-use Rattle.model_laws.proofs.{Numbers.accounts_numbered, Numbers.all_named, Numbers.first_no, Numbers.no_latest}
+use Rattle.model_laws.proofs.{NewOrders.each_authorization, Numbers.accounts_numbered, Numbers.all_named, Numbers.first_no, Numbers.no_latest}
 
 -- ---- reports
 
@@ -136,12 +134,7 @@ numbers_fit_counters F t h = grind arith
 pub begun_terms : (F : History) → BeginsMade F → EachFollows F → are_terms (terms F) ≡ true
 begun_terms [] b h = absurd b
 begun_terms (e ∷ []) b h = grind arith
-begun_terms (e ∷ f ∷ F) b h = by e.entry h.0.allowed (begun_terms (f ∷ F) b h.1)
-  where
-    by : (entry : Entry) → may_follow (f ∷ F) entry e.date ≡ true → are_terms (terms (f ∷ F)) ≡ true →
-        are_terms (terms (record { date = e.date; entry = entry } ∷ f ∷ F)) ≡ true
-    by (made t) may ih = cc
-    by _ may ih = ih
+begun_terms (e ∷ f ∷ F) b h = grind (arith, (begun_terms (f ∷ F) b h.1))
 
 -- the terms of a legal history
 pub terms_in_limits : (F : History) → Legal F → IsTrue (are_terms (terms F))
@@ -165,18 +158,11 @@ pub nonces_dated : (F : History) → EachFollows F → EachOf (λ n. n.issued �
 nonces_dated [] h = tt
 nonces_dated (e ∷ F) h = grind (arith, each-append, (nonces_dated F h.1))
 
--- authorizations that end in time
-made_for_end : (account date expires : ℕ) (ws : List Wanted) (n c : ℕ) → expires ≤ last_end →
-    EachOf (λ a. a.expires ≤ last_end) (made_for account date expires ws n c)
-made_for_end account date expires [] n c h = tt
-made_for_end account date expires (New name tokens ∷ ws) n c h =
-    (h, made_for_end account date expires ws (n + 1) (c + length (challenges_from c (kinds_of name) tokens)) h)
-made_for_end account date expires (Reused name k ∷ ws) n c h = made_for_end account date expires ws n c h
-
 -- each authorization ends in time
 pub authorizations_end : (F : History) → EachFollows F → EachOf (λ a. a.expires ≤ last_end) (authorizations F)
-authorizations_end [] h = tt
-authorizations_end (e ∷ F) h = grind (arith, each-append, lives_fit, made_for_end, (authorizations_end F h.1))
+authorizations_end =
+    each_authorization (λ F a. a.expires ≤ last_end) (λ e F a p. p)
+    (λ F account m ws h name tokens n c few is. let fits = (lives_fit F h.1).authorizations in omega (arith, h.0.in_time))
 
 -- each order ends in time
 pub orders_end : (F : History) → EachFollows F → EachOf (λ o. o.expires ≤ last_end) (orders F)
@@ -215,21 +201,11 @@ keys_now_formed F h =
     (λ a. now_holds IsKeyText (latest (λ d. rekeying a.number d.entry) F) a.key
     (latest_holds IsKeyText _ F (each _ _ F (λ d. rekeying_formed a.number d.entry) (each_formed F h)))) (keys_formed F h)
 
--- well-formed names give well-formed authorizations
-made_for_named : (account date expires : ℕ) (ws : List Wanted) (n c : ℕ) → list_all is_wanted ws ≡ true →
-    EachOf (λ a. IsTrue (is_base_name a.name.base)) (made_for account date expires ws n c)
-made_for_named account date expires [] n c h = tt
-made_for_named account date expires (New name tokens ∷ ws) n c h =
-    let p = and_parts (is_wanted (New name tokens)) _ h in (
-      (and_parts (is_base_name name.base) _ p.0).0,
-      made_for_named account date expires ws (n + 1) (c + length (challenges_from c (kinds_of name) tokens)) p.1,
-    )
-made_for_named account date expires (Reused name k ∷ ws) n c h = made_for_named account date expires ws n c (and_parts (is_wanted (Reused name k)) _ h).1
-
 -- each authorization's name is well formed
 pub names_formed : (F : History) → EachFollows F → EachOf (λ a. IsTrue (is_base_name a.name.base)) (authorizations F)
-names_formed [] h = tt
-names_formed (e ∷ F) h = grind (arith, each-append, made_for_named, (names_formed F h.1))
+names_formed =
+    each_authorization (λ F a. IsTrue (is_base_name a.name.base)) (λ e F a p. p)
+    (λ F account m ws h name tokens n c few is. (and_parts (is_base_name name.base) _ is).0)
 
 -- and so in the rows
 pub row_keys_formed : (F : History) → EachFollows F → (t : ℕ) → EachOf (λ a. IsKeyText a.key) (tables_at F t).accounts

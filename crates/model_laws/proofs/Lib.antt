@@ -24,6 +24,7 @@ pub mod Numbers
 pub mod OrderDates
 pub mod OrderFacts
 pub mod Plain
+pub mod PutRows
 pub mod PutsDiffer
 pub mod ReadRows
 pub mod Recorded

@@ -1,22 +1,19 @@
 -- A part that holds what is touched records the same changes as the whole.
-use Rattle.std.proofs.Common.{◌≡◌, ℕ, ◌+◌, List, [], ◌∷◌, ◌++◌, map, filter, refl, sym, ap, ◌∙◌, true, false, Bool, cond, not, arith, rules}
+use Rattle.std.proofs.Common.{◌≡◌, ℕ, ◌+◌, List, [], ◌∷◌, ◌++◌, map, filter, refl, sym, ap, ◌∙◌, true, Bool, cond, arith, rules}
 use Rattle.std.proofs.{lemmas.Bool.and_parts, lemmas.List.Folds.find-append}
 use Rattle.std.specs.{Prelude.◌==◌, Prelude.◌&&◌, Prelude.◌||◌, Prelude.find, Option.option_or}
-use Rattle.desk_model.specs.{Lookup.holds, History.earlier, Account.opened_by, Authorization.in_time, Order.ordered_by, Tables.Tables}
 use Rattle.desk_model.specs.Derived.{numbers_of, authorization_numbered, stored_statuses, and_status, restated_authorization, restated_order}
-use Rattle.desk_model.specs.Effect.{noted_account, noted_authorization, noted_order, touches_account, touches_authorization, key_in, key_numbered}
-use Rattle.desk_model.specs.Effect.{noted_challenge, row_ends, touches_order, lists_one, moved_authorization, fresh_account, fresh_authorization}
-use Rattle.desk_model.specs.Effect.{fresh_order, new_authorizations, authorizations_after, lasts, swept, swept_authorization, swept_order, is_overdue, falls}
-use Rattle.desk_model.specs.Change.{moved_rows, account_differs, authorization_differs, order_differs, spent_by, nonces_put, accounts_put, authorizations_put}
-use Rattle.desk_model.specs.Change.{changes, sweep_changes, nonces_gone, authorizations_expired, orders_fallen}
+use Rattle.desk_model.specs.Effect.{noted_account, noted_authorization, noted_order, touches_account, touches_authorization, touches_order, lists_one}
+use Rattle.desk_model.specs.Effect.{moved_authorization, fresh_account, fresh_authorization, fresh_order, new_authorizations, authorizations_after, swept}
+use Rattle.desk_model.specs.Effect.{swept_authorization, swept_order, is_overdue, falls}
+use Rattle.desk_model.specs.Change.{moved_rows, account_differs, authorization_differs, order_differs, spent_by, nonces_put, changes, sweep_changes}
+use Rattle.desk_model.specs.Change.{nonces_gone, authorizations_expired, orders_fallen}
 use Rattle.desk_model.specs.Kept.{Kept, restricted, EachOf, IsClosed, Covers, CoversSweep, HoldersKept}
-use Rattle.desk_model.specs.declared.{entry.Entry.Entry, objects.Nonce.Nonce, objects.Order.Order, rows.AccountRow.AccountRow}
-use Rattle.desk_model.specs.declared.{rows.AuthorizationRow.AuthorizationRow, rows.OrderRow.OrderRow}
 use Rattle.desk_model.specs.declared.rows.Change.TheVariants.{PutNonce, RemoveNonce, PutAccount, PutAuthorization, PutOrder}
-use Rattle.desk_model.specs.declared.status.AuthzStatus.TheVariants as authz
-use Rattle.desk_model.specs.declared.status.OrderStatus.TheVariants as order
+use Rattle.desk_model.specs.{Lookup.holds, Account.opened_by, Order.ordered_by, Tables.Tables, declared.entry.Entry.Entry, declared.objects.Order.Order}
+use Rattle.desk_model.specs.{declared.rows.AccountRow.AccountRow, declared.rows.AuthorizationRow.AuthorizationRow, declared.rows.OrderRow.OrderRow}
 use Rattle.model_laws.specs.Parts.{FreshKept}
-use Rattle.model_laws.proofs.{Basics.each, Basics.each_all, Basics.one_kept, OrderFacts.restated_alike, RowFacts.authorization_untouched}
+use Rattle.model_laws.proofs.{Basics.each, Basics.each_all, Basics.map-each, Basics.one_kept, OrderFacts.restated_alike, RowFacts.authorization_untouched}
 
 -- ---- lists
 
@@ -70,20 +67,10 @@ kept_before k T ns h = each _ _ ns (λ n yes. find_kept (λ (a : AuthorizationRo
 pub moved_number : (e : Entry) (m : ℕ) (accounts : List AccountRow) (row : AuthorizationRow) → (moved_authorization e m accounts row).number ≡ row.number
 moved_number e m accounts row = one_kept (λ (a : AuthorizationRow). a.number) (touches_authorization e row) _ row refl
 
--- an account that is kept has its key in the part
-key_kept : (k : Kept) (T : Tables) (n : ℕ) → k.accounts n ≡ true → key_numbered n (restricted k T).accounts ≡ key_numbered n T.accounts
-key_kept k T n h = ap key_in (find_kept (λ (a : AccountRow). a.number) k.accounts n T.accounts h)
-
 -- an authorization is noted by the part as by the whole, if its account is kept where the entry touches it
 noted_same : (k : Kept) (T : Tables) (e : Entry) (m : ℕ) (a : AuthorizationRow) → (touches_authorization e a ≡ true → k.accounts a.account ≡ true) →
     noted_authorization e m (restricted k T).accounts a ≡ noted_authorization e m T.accounts a
-noted_same k T e m a h = by (touches_authorization e a) refl
-  where
-    by : (b : Bool) → touches_authorization e a ≡ b → noted_authorization e m (restricted k T).accounts a ≡ noted_authorization e m T.accounts a
-    by true t =
-        ap (λ key. record a { ended = earlier a.ended (in_time a.expires (row_ends a e m)); challenges = map (noted_challenge e m key) a.challenges })
-        (key_kept k T a.account (h t))
-    by false t = authorization_untouched e m (restricted k T).accounts a t ∙ sym (authorization_untouched e m T.accounts a t)
+noted_same k T e m a h = grind (arith, (find_kept (λ (r : AccountRow). r.number) k.accounts a.account T.accounts), (authorization_untouched e m (restricted k T).accounts a), (authorization_untouched e m T.accounts a))
 
 -- and so it is moved
 moved_same : (k : Kept) (T : Tables) (e : Entry) (m : ℕ) (a : AuthorizationRow) → (touches_authorization e a ≡ true → k.accounts a.account ≡ true) →
@@ -128,9 +115,12 @@ falls_same k T m row h = grind (arith, lists_same, (kept_before k T (numbers_of 
 -- the part changes as the whole by the passing of time
 pub sweep_changes_local : (k : Kept) (T : Tables) (m : ℕ) → IsClosed k T → CoversSweep k T m → sweep_changes m (restricted k T) ≡ sweep_changes m T
 sweep_changes_local k T m closed covers =
-    let gone : nonces_gone m (restricted k T) ≡ nonces_gone m T = picked (λ (n : Nonce). k.nonces n.serial) (λ n. not (lasts T.meta.policy m n)) (λ n. not (lasts T.meta.policy m n)) (λ n. n.serial) (λ n. n.serial) T.nonces (each_all _ T.nonces (λ n yes. (refl, refl))) covers.nonces in
-    let expired : authorizations_expired m (restricted k T) ≡ authorizations_expired m T = picked (λ (a : AuthorizationRow). k.authorizations a.number) (is_overdue m) (is_overdue m) (λ (r : AuthorizationRow). record r { status = authz.Expired }) (λ (r : AuthorizationRow). record r { status = authz.Expired }) T.authorizations (each_all _ T.authorizations (λ a yes. (refl, refl))) covers.authorizations in
-    let fallen : orders_fallen m (restricted k T) ≡ orders_fallen m T = picked (λ (o : OrderRow). k.orders o.number) (falls m (restricted k T).authorizations) (falls m T.authorizations) (λ (r : OrderRow). record r { status = order.Invalid }) (λ (r : OrderRow). record r { status = order.Invalid }) T.orders (each _ _ T.orders (λ o all yes. (falls_same k T m o (all yes), refl)) closed.listed) covers.orders in
+    let gone : nonces_gone m (restricted k T) ≡ nonces_gone m T =
+    picked _ _ _ _ _ T.nonces (each_all _ T.nonces (λ n yes. (refl, refl))) covers.nonces in
+    let expired : authorizations_expired m (restricted k T) ≡ authorizations_expired m T =
+    picked _ _ _ _ _ T.authorizations (each_all _ T.authorizations (λ a yes. (refl, refl))) covers.authorizations in
+    let fallen : orders_fallen m (restricted k T) ≡ orders_fallen m T =
+    picked _ _ _ _ _ T.orders (each _ _ T.orders (λ o all yes. (falls_same k T m o (all yes), refl)) closed.listed) covers.orders in
     search rules
 
 -- ---- an entry
@@ -140,51 +130,45 @@ pub touches_same : (k : Kept) (T : Tables) (e : Entry) (row : OrderRow) → Each
     touches_order e (restricted k T).authorizations row ≡ touches_order e T.authorizations row
 touches_same k T e row h = grind (arith, lists_same, (kept_before k T (numbers_of row.listed) h))
 
+-- new orders get the same status from the part as from the whole
+pub fresh_orders : (k : Kept) (T : Tables) (m : ℕ) (e : Entry) (xs : List Order) → HoldersKept k T e →
+    EachOf (λ o. EachOf (λ n. k.authorizations n ≡ true) (numbers_of (fresh_order o).listed)) xs →
+    map (λ o. restated_order m (authorizations_after (restricted k T) e m) (fresh_order o)) xs
+    ≡ map (λ o. restated_order m (authorizations_after T e m) (fresh_order o)) xs
+fresh_orders k T m e xs holders h =
+    map-each _ _ xs (each _ _ xs (λ o kept. restated_same m _ _ (fresh_order o) (kept_after k T e m (numbers_of (fresh_order o).listed) holders kept)) h)
+
 -- the part changes as the whole by an entry
 pub changes_local : (k : Kept) (T : Tables) (m : ℕ) (e : Entry) → IsClosed k T → Covers k T e → FreshKept k T m e → changes m (restricted k T) e ≡ changes m T e
 changes_local k T m e closed covers fresh_kept =
-    let accounts : accounts_put (restricted k T) e m ≡ accounts_put T e m =
-    ap (λ rows. rows ++ map fresh_account (opened_by e m (T.meta.counters.accounts + 1)))
-    (picked (λ (a : AccountRow). k.accounts a.number) (λ r. touches_account e r && account_differs r (noted_account e m r))
-    (λ r. touches_account e r && account_differs r (noted_account e m r)) (noted_account e m) (noted_account e m) T.accounts
-    (each_all _ T.accounts (λ a yes. (refl, refl)))
-    (each _ _ T.accounts (λ a f h. f (and_parts (touches_account e a) _ h).0) covers.accounts)) in
-    let authorizations : authorizations_put (restricted k T) e m ≡ authorizations_put T e m =
-    ap (λ rows. rows ++ map (λ a. restated_authorization m (fresh_authorization a)) (new_authorizations T e m))
-    (picked (λ (a : AuthorizationRow). k.authorizations a.number)
-    (λ r. touches_authorization e r && authorization_differs r (restated_authorization m (noted_authorization e m (restricted k T).accounts r)))
-    (λ r. touches_authorization e r && authorization_differs r (restated_authorization m (noted_authorization e m T.accounts r)))
-    (λ r. restated_authorization m (noted_authorization e m (restricted k T).accounts r))
-    (λ r. restated_authorization m (noted_authorization e m T.accounts r)) T.authorizations
+    let accounts : moved_rows (touches_account e) account_differs (noted_account e m) (restricted k T).accounts
+    ≡ moved_rows (touches_account e) account_differs (noted_account e m) T.accounts =
+    picked _ _ _ _ _ T.accounts (each_all _ T.accounts (λ a yes. (refl, refl)))
+    (each _ _ T.accounts (λ a f h. f (and_parts (touches_account e a) _ h).0) covers.accounts) in
+    let authorizations : moved_rows (touches_authorization e) authorization_differs
+    (λ r. restated_authorization m (noted_authorization e m (restricted k T).accounts r)) (restricted k T).authorizations
+    ≡ moved_rows (touches_authorization e) authorization_differs
+    (λ r. restated_authorization m (noted_authorization e m T.accounts r)) T.authorizations =
+    picked _ _ _ _ _ T.authorizations
     (each _ _ T.authorizations (λ a h yes.
     let same = ap (restated_authorization m) (noted_same k T e m a h) in
     ((λ i. touches_authorization e a && authorization_differs a (same i)), same)) covers.holders)
-    (each _ _ T.authorizations (λ a f h. f (and_parts (touches_authorization e a) _ h).0) covers.authorizations)) in
-    let before : List AuthorizationRow = (restricted k T).authorizations in
+    (each _ _ T.authorizations (λ a f h. f (and_parts (touches_authorization e a) _ h).0) covers.authorizations) in
     let after : List AuthorizationRow = authorizations_after (restricted k T) e m in
-    let old : moved_rows (touches_order e before) order_differs (λ r. restated_order m after (noted_order e m r)) (restricted k T).orders
+    let orders : moved_rows (touches_order e (restricted k T).authorizations) order_differs (λ r. restated_order m after (noted_order e m r)) (restricted k T).orders
     ≡ moved_rows (touches_order e T.authorizations) order_differs (λ r. restated_order m (authorizations_after T e m) (noted_order e m r)) T.orders =
-    picked (λ (o : OrderRow). k.orders o.number)
-    (λ r. touches_order e before r && order_differs r (restated_order m after (noted_order e m r)))
-    (λ r. touches_order e T.authorizations r && order_differs r (restated_order m (authorizations_after T e m) (noted_order e m r)))
-    (λ r. restated_order m after (noted_order e m r)) (λ r. restated_order m (authorizations_after T e m) (noted_order e m r)) T.orders
+    picked _ _ _ _ _ T.orders
     (each _ _ T.orders (λ o all yes.
     let same = restated_same m after (authorizations_after T e m) (noted_order e m o)
     (kept_after k T e m (numbers_of o.listed) covers.holders (all yes)) in
     ((λ i. touches_same k T e o (all yes) i && order_differs o (same i)), same)) closed.listed)
     (each _ _ T.orders (λ o f h. f (and_parts (touches_order e T.authorizations o) _ h).0) covers.orders) in
-    let new = news (ordered_by e m T.meta.policy (T.meta.counters.authorizations + 1) (T.meta.counters.orders + 1)) fresh_kept in
+    let new = fresh_orders k T m e (ordered_by e m T.meta.policy (T.meta.counters.authorizations + 1) (T.meta.counters.orders + 1)) covers.holders fresh_kept in
     λ i. map RemoveNonce (spent_by e) ++
     (map PutNonce (nonces_put T e m) ++
-    (map PutAccount (accounts i) ++ (map PutAuthorization (authorizations i) ++ map PutOrder (old i ++ new i))))
-  where
-    news : (os : List Order) → EachOf (λ o. EachOf (λ n. k.authorizations n ≡ true) (numbers_of (fresh_order o).listed)) os →
-        map (λ o. restated_order m (authorizations_after (restricted k T) e m) (fresh_order o)) os
-        ≡ map (λ o. restated_order m (authorizations_after T e m) (fresh_order o)) os
-    news [] h = refl
-    news (o ∷ os) h =
-        λ i. restated_same m (authorizations_after (restricted k T) e m) (authorizations_after T e m) (fresh_order o)
-        (kept_after k T e m (numbers_of (fresh_order o).listed) covers.holders h.0) i ∷ news os h.1 i
+    (map PutAccount (accounts i ++ map fresh_account (opened_by e m (T.meta.counters.accounts + 1))) ++
+    (map PutAuthorization (authorizations i ++ map (λ a. restated_authorization m (fresh_authorization a)) (new_authorizations T e m)) ++
+    map PutOrder (orders i ++ new i))))
 
 -- ---- a part moves as the whole
 

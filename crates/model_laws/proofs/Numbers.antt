@@ -1,19 +1,19 @@
 -- Numbers: how they are given, and that an entry names only such as were given.
 use Rattle.std.proofs.Common.{◌≡◌, ◌≤◌, ◌<◌, ℕ, ◌+◌, List, [], ◌∷◌, ◌++◌, length, Option, None, refl, subst, true, Bool, arith, length-append}
 use Rattle.std.proofs.lemmas.Bool.{and_parts}
-use Rattle.std.specs.{Prelude.◌==◌, Prelude.find, List.list_any, List.list_all}
+use Rattle.std.specs.{Prelude.◌==◌, Prelude.find, List.list_any}
 use Rattle.desk_model.specs.History.{terms, first, latest, earlier}
 use Rattle.desk_model.specs.Authorization.{authorizations, has_challenge, made_by, made_for, kinds_of, challenges_from, count_challenges}
-use Rattle.desk_model.specs.declared.entry.Entry.TheVariants.{Spent as spent, ContactsChanged as contacts_changed, KeyChanged as key_changed}
+use Rattle.desk_model.specs.declared.entry.Entry.TheVariants.{Spent as spent, ContactsChanged as contacts_changed, KeyChanged as key_changed, Failed as failed}
 use Rattle.desk_model.specs.declared.entry.Entry.TheVariants.{AccountEnded as account_ended, Ordered as ordered, Answered as answered, Reported as reported}
 use Rattle.desk_model.specs.declared.entry.Entry.TheVariants.{AuthorizationEnded as authorization_ended, Finalized as finalized, Certified as certified}
-use Rattle.desk_model.specs.declared.entry.Entry.TheVariants.{Failed as failed}
 use Rattle.desk_model.specs.{Entry.History, Lookup.holds, Kept.EachOf, Nonce.nonces, Account.accounts, Order.orders, Order.ordered_by, Legal.EachFollows}
 use Rattle.desk_model.specs.{Legal.may_follow, Legal.may_want, declared.entry.Dated.Dated, declared.entry.Entry.Entry, declared.entry.Wanted.Wanted}
 use Rattle.desk_model.specs.{declared.objects.Authorization.Authorization, declared.objects.Challenge.Challenge, declared.status.Kind.Kind}
 use Rattle.desk_model.specs.{declared.objects.Order.Order, declared.entry.Wanted.TheVariants.New, declared.entry.Wanted.TheVariants.Reused}
-use Rattle.model_laws.proofs.{Basics.each, Basics.IsNumbered, Basics.numbered-append, NewOrders.may_be_ordered, OrderFacts.authorizations_numbered}
-use Rattle.model_laws.specs.{Given.Counts, Given.counts, Given.NamesGiven, Reused.OfReused}
+use Rattle.model_laws.proofs.{Basics.each, Basics.IsNumbered, Basics.numbered-append, NewOrders.may_be_ordered, NewOrders.of_reused, NewOrders.reused_pass}
+use Rattle.model_laws.proofs.{OrderFacts.authorizations_numbered}
+use Rattle.model_laws.specs.{Given.Counts, Given.counts, Given.NamesGiven}
 
 -- ---- facts that no entry states
 
@@ -30,10 +30,7 @@ no_latest fact (e ∷ F) h = λ i. earlier (h.0 i) (no_latest fact F h.1 i)
 -- where there is no first fact, no entry states one
 pub first_no : {X : Type 0} (fact : Dated → Option X) (F : History) → first fact F ≡ None → EachOf (λ d. fact d ≡ None) F
 first_no fact [] h = tt
-first_no fact (e ∷ F) h = let p = parts (first fact F) (fact e) h in (p.1, first_no fact F p.0)
-  where
-    parts : {X : Type 0} (x y : Option X) → earlier x y ≡ None → (x ≡ None) × (y ≡ None)
-    parts x y k = grind arith
+first_no fact (e ∷ F) h = grind (arith, (first_no fact F))
 
 -- ---- numbers
 
@@ -53,12 +50,7 @@ names_more c d w (key_changed n key) h = omega (arith, w.accounts)
 names_more c d w (account_ended n s) h = omega (arith, w.accounts)
 names_more c d w (ordered n ws) h =
     let account : n ≤ c.accounts = h.0 in
-    (omega (arith, w.accounts), reused_more ws h.1)
-  where
-    reused_more : (xs : List Wanted) → EachOf (OfReused (λ k. k ≤ c.authorizations)) xs → EachOf (OfReused (λ k. k ≤ d.authorizations)) xs
-    reused_more [] k = tt
-    reused_more (New name tokens ∷ xs) k = (tt, reused_more xs k.1)
-    reused_more (Reused name j ∷ xs) k = let given : j ≤ c.authorizations = k.0 in (omega (arith, w.authorizations), reused_more xs k.1)
+    (omega (arith, w.accounts), each _ _ ws (of_reused _ _ (λ k (le : k ≤ c.authorizations). omega (arith, w.authorizations))) h.1)
 names_more c d w (answered n) h = omega (arith, w.challenges)
 names_more c d w (reported n o) h = omega (arith, w.challenges)
 names_more c d w (authorization_ended n s) h = omega (arith, w.authorizations)
@@ -153,15 +145,10 @@ names_allowed F (contacts_changed n cs) m may = found_given (λ x. x.number) n (
 names_allowed F (key_changed n key) m may = found_given (λ x. x.number) n (accounts F) _ (accounts_numbered F) (and_parts _ _ may).0
 names_allowed F (account_ended n s) m may = found_given (λ x. x.number) n (accounts F) _ (accounts_numbered F) may
 names_allowed F (ordered n ws) m may =
-    let tests = may_be_ordered F m n ws may in
-    (found_given (λ x. x.number) n (accounts F) _ (accounts_numbered F) tests.holder, reused_below ws tests.reused)
-  where
-    reused_below : (xs : List Wanted) → list_all (may_want F m n) xs ≡ true → EachOf (OfReused (λ k. k ≤ length (authorizations F))) xs
-    reused_below [] h = tt
-    reused_below (New name tokens ∷ xs) h = (tt, reused_below xs h)
-    reused_below (Reused name k ∷ xs) h =
-        let p = and_parts (may_want F m n (Reused name k)) _ h in
-        (found_given (λ x. x.number) k (authorizations F) _ (authorizations_numbered F) p.0, reused_below xs p.1)
+    let tests = may_be_ordered F m n ws may in (
+      found_given (λ x. x.number) n (accounts F) _ (accounts_numbered F) tests.holder,
+      reused_pass _ (may_want F m n) (λ name k p. found_given (λ x. x.number) k (authorizations F) _ (authorizations_numbered F) p) ws tests.reused,
+    )
 names_allowed F (answered n) m may = grind (arith, challenge_below, (challenges_count F))
 names_allowed F (reported n o) m may = grind (arith, challenge_below, (challenges_count F))
 names_allowed F (authorization_ended n s) m may = found_given (λ x. x.number) n (authorizations F) _ (authorizations_numbered F) may

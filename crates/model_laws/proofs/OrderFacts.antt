@@ -1,25 +1,25 @@
 -- What an entry, and the passing of time, does to the row of an order.
-use Rattle.std.proofs.Common.{◌≡◌, ◌≤◌, ℕ, ◌+◌, List, [], ◌∷◌, length, map, Option, Some, refl, sym, ap, ◌∙◌, true, false, Bool, cond, arith}
-use Rattle.std.proofs.{lemmas.Bool.or_parts, lemmas.Bool.and_parts, lemmas.List.Folds.list_all-map}
+use Rattle.std.proofs.Common.{◌≡◌, ◌≤◌, ℕ, ◌+◌, List, [], ◌∷◌, length, map, Some, refl, sym, ap, ◌∙◌, true, false, Bool, cond, arith}
+use Rattle.std.proofs.{lemmas.Bool.or_parts, lemmas.List.Folds.list_all-map}
 use Rattle.std.specs.Prelude.{nat_lt, ◌==◌, ◌&&◌, ◌||◌, is_some, IsSome}
 use Rattle.std.specs.{List.list_any, List.list_all, Option.option_map}
 use Rattle.desk_model.specs.Authorization.{authorizations, authorization, made_by, made_for, count_challenges, authorization_status, is_over, is_valid}
-use Rattle.desk_model.specs.Order.{orders, ordered_by, order_status, order_status_by, has_lost, all_valid, and_found, authorizations_at, listed_by}
+use Rattle.desk_model.specs.Order.{orders, ordered_by, order_status, order_status_by, has_lost, all_valid, authorizations_at, listed_by}
 use Rattle.desk_model.specs.Derived.{stored_statuses, and_status, authorization_numbered, numbers_of, restated_order}
-use Rattle.desk_model.specs.Effect.{noted_order, touches_authorization, names_order, lists_one, touches_order, moved_order, is_overdue, is_live_order, falls}
-use Rattle.desk_model.specs.Effect.{swept_order}
-use Rattle.desk_model.specs.{Entry.History, Lookup.holds, Kept.EachOf, History.clock, History.terms, Legal.EachFollows, Legal.may_follow, Legal.may_serve}
-use Rattle.desk_model.specs.{Legal.may_want, Tables.authorization_row, Tables.order_row, Tables.listed_from}
-use Rattle.desk_model.specs.declared.{status.AuthzStatus.AuthzStatus, entry.Dated.Dated, entry.Entry.Entry, entry.Entry.TheVariants.Ordered as ordered}
-use Rattle.desk_model.specs.declared.{entry.Wanted.Wanted, objects.Authorization.Authorization, objects.Order.Order, rows.AuthorizationRow.AuthorizationRow}
-use Rattle.desk_model.specs.declared.{rows.OrderRow.OrderRow, entry.Wanted.TheVariants.New as new, entry.Wanted.TheVariants.Reused as reused}
-use Rattle.desk_model.specs.declared.status.AuthzStatus.TheVariants as authz
-use Rattle.desk_model.specs.declared.status.OrderStatus.TheVariants as order
+use Rattle.desk_model.specs.Effect.{noted_order, touches_authorization, names_order, touches_order, moved_order, is_overdue, is_live_order, falls, swept_order}
+use Rattle.desk_model.specs.Effect.{lists_one}
+use Rattle.desk_model.specs.{Entry.History, declared.status.AuthzStatus.AuthzStatus, declared.entry.Wanted.Wanted, declared.entry.Wanted.TheVariants.New as new}
+use Rattle.desk_model.specs.{Lookup.holds, Kept.EachOf, History.clock, History.terms, Legal.may_follow, Legal.may_serve, Legal.may_want, Tables.order_row}
+use Rattle.desk_model.specs.{Legal.EachFollows, Tables.listed_from, declared.entry.Dated.Dated, declared.entry.Entry.Entry, declared.objects.Order.Order}
+use Rattle.desk_model.specs.{Tables.authorization_row, declared.entry.Entry.TheVariants.Ordered as ordered, declared.entry.Wanted.TheVariants.Reused as reused}
+use Rattle.desk_model.specs.{declared.objects.Authorization.Authorization, declared.rows.AuthorizationRow.AuthorizationRow, declared.rows.OrderRow.OrderRow}
 use Rattle.model_laws.proofs.Basics.{list_any-map, list_any-same, any_or, each, each-append, each_after, map-each, find-map, find-append, still_some, there}
 use Rattle.model_laws.proofs.Basics.{IsNumbered, numbered-append}
-use Rattle.model_laws.proofs.RowFacts.{authorization_kept, authorization_later, past_later}
-use Rattle.model_laws.proofs.{OrderDates.order_unnoted, NewOrders.may_be_ordered, RowLists.ascends_found, RowLists.numbered_ascends}
+use Rattle.model_laws.proofs.{RowFacts.authorization_kept, RowFacts.authorization_later, RowFacts.past_later, OrderDates.order_unnoted}
+use Rattle.model_laws.proofs.{NewOrders.may_be_ordered, NewOrders.of_reused, NewOrders.reused_pass, RowLists.ascends_found, RowLists.numbered_ascends}
 use Rattle.model_laws.specs.{Ordered.Ascends, Reused.OfReused}
+use Rattle.desk_model.specs.declared.status.AuthzStatus.TheVariants as authz
+use Rattle.desk_model.specs.declared.status.OrderStatus.TheVariants as order
 
 -- ---- the authorizations of an order are found by their numbers
 
@@ -64,14 +64,8 @@ each_listed P account date expires (reused name j ∷ ws) n c h k = (k.0, each_l
 -- the authorizations that an order uses again are there
 pub reused_found : (F : History) (m account : ℕ) (ws : List Wanted) → may_follow F (ordered account ws) m ≡ true → EachOf (OfReused (IsFound F)) ws
 reused_found F m account ws may =
-    go ws (may_be_ordered F m account ws may).reused
-  where
-    go : (xs : List Wanted) → list_all (may_want F m account) xs ≡ true → EachOf (OfReused (IsFound F)) xs
-    go [] h = tt
-    go (new name tokens ∷ xs) h = (tt, go xs h)
-    go (reused name k ∷ xs) h =
-        let p = and_parts (may_want F m account (reused name k)) _ h in
-        (there (may_serve F m account name (m + (terms F).order_life)) (authorization k F) p.0, go xs p.1)
+    reused_pass (IsFound F) (may_want F m account) (λ name k p. there (may_serve F m account name (m + (terms F).order_life)) (authorization k F) p) ws
+    (may_be_ordered F m account ws may).reused
 
 -- the numbers that each order lists are found
 pub listed_found : (F : History) → EachFollows F → EachOf (AreFound F) (orders F)
@@ -89,12 +83,8 @@ listed_found (e ∷ F) h =
         (made_by entry e.date (terms F).authz_life (length (authorizations F) + 1) (count_challenges (authorizations F) + 1)) →
         EachOf (AreFound (e ∷ F)) (ordered_by entry e.date (terms F) (length (authorizations F) + 1) (length (orders F) + 1))
     now (ordered account ws) may h =
-        (each_listed (IsFound (e ∷ F)) account e.date _ ws (length (authorizations F) + 1) _ h (later ws (reused_found F e.date account ws may)), tt)
-      where
-        later : (xs : List Wanted) → EachOf (OfReused (IsFound F)) xs → EachOf (OfReused (IsFound (e ∷ F))) xs
-        later [] k = tt
-        later (new name tokens ∷ xs) k = (tt, later xs k.1)
-        later (reused name n ∷ xs) k = (found_later F e n k.0, later xs k.1)
+        let again = each _ _ ws (of_reused _ _ (found_later F e)) (reused_found F e.date account ws may) in
+        (each_listed (IsFound (e ∷ F)) account e.date _ ws (length (authorizations F) + 1) _ h again, tt)
     now _ may h = tt
 
 -- places count up
@@ -156,10 +146,7 @@ none_listed F t p test (n ∷ ns) = (λ i. holds test (numbered_row F t n i) || 
 -- the authorizations of an order stay what they are
 at_later : (F : History) (e : Dated) (ns : List ℕ) → EachOf (IsFound F) ns → authorizations_at ns (e ∷ F) ≡ authorizations_at ns F
 at_later F e [] h = refl
-at_later F e (n ∷ ns) h = λ i. and_found (same (authorization n F) refl h.0 i) (at_later F e ns h.1 i)
-  where
-    same : (o : Option Authorization) → authorization n F ≡ o → IsSome o → authorization n (e ∷ F) ≡ authorization n F
-    same o l k = grind (arith, find-append)
+at_later F e (n ∷ ns) h = grind (arith, find-append, (at_later F e ns h.1))
 
 -- where no item passes, each fails
 each_not : {X : Type 0} (p : X → Bool) (xs : List X) → list_any p xs ≡ false → EachOf (λ x. p x ≡ false) xs
@@ -190,14 +177,7 @@ pub order_moves : (F : History) (e : Entry) (m : ℕ) (o : Order) → EachFollow
     (let G : History = record { date = m; entry = e } ∷ F in
     order_row G m o ≡ moved_order e m (map (authorization_row F m) (authorizations F)) (map (authorization_row G m) (authorizations G))
     (order_row F m o))
-order_moves F e m o each_follows le found = by (touches_order e (map (authorization_row F m) (authorizations F)) (order_row F m o)) refl
-  where
-    by : (b : Bool) → touches_order e (map (authorization_row F m) (authorizations F)) (order_row F m o) ≡ b →
-        (let G : History = record { date = m; entry = e } ∷ F in
-        order_row G m o ≡ cond b (restated_order m (map (authorization_row G m) (authorizations G)) (noted_order e m (order_row F m o)))
-        (order_row F m o))
-    by true h = order_noted F e m m o
-    by false h = order_untouched F e m o each_follows le found h
+order_moves F e m o each_follows le found = grind (arith, (order_noted F e m m o), (order_untouched F e m o each_follows le found))
 
 -- ---- the passing of time
 

@@ -1,8 +1,7 @@
 -- A signed request spends a nonce and issues one before its own entry: these two touch no other table.
-use Rattle.std.proofs.Common.{◌≡◌, ℕ, ◌+◌, List, [], ◌∷◌, ◌++◌, map, Option, refl, sym, ap, subst, true, false, cond, arith}
-use Rattle.std.specs.Prelude.{◌||◌}
+use Rattle.std.proofs.Common.{◌≡◌, ℕ, ◌+◌, List, [], ◌∷◌, ◌++◌, map, refl, sym, ap, subst, true, false, cond, arith}
 use Rattle.desk_model.specs.Effect.{effect, moved_order, lists_one, new_authorizations, touches_account, touches_authorization, touches_order}
-use Rattle.desk_model.specs.{Lookup.holds, Tables.Tables, Order.listed_by, Derived.numbers_of, Derived.authorization_numbered, Kept.Kept, Kept.EachOf}
+use Rattle.desk_model.specs.{Tables.Tables, Order.listed_by, Derived.numbers_of, Kept.Kept, Kept.EachOf}
 use Rattle.desk_model.specs.{Kept.IsClosed, Kept.Covers, declared.objects.Authorization.Authorization, declared.rows.AccountRow.AccountRow}
 use Rattle.desk_model.specs.{declared.rows.AuthorizationRow.AuthorizationRow, declared.rows.OrderRow.OrderRow}
 use Rattle.desk_model.specs.declared.entry.Entry.{Entry, TheVariants.Issued as issued, TheVariants.Spent as spent, TheVariants.Ordered as ordered}
@@ -13,10 +12,7 @@ use Rattle.model_laws.specs.Parts.{FreshKept, ReusedKept, CoversAll}
 -- no listed row passes a test that none passes
 pub nothing_touched : (rows : List AuthorizationRow) (ns : List ℕ) → lists_one (λ a. false) rows ns ≡ false
 nothing_touched rows [] = refl
-nothing_touched rows (n ∷ ns) = λ i. nowhere (authorization_numbered n rows) i || nothing_touched rows ns i
-  where
-    nowhere : (o : Option AuthorizationRow) → holds (λ a. false) o ≡ false
-    nowhere o = grind arith
+nothing_touched rows (n ∷ ns) = grind (arith, (nothing_touched rows ns))
 
 -- rows that stay what they are
 kept_rows : {X : Type 0} (f : X → X) (xs : List X) → ((x : X) → f x ≡ x) → map f xs ++ [] ≡ xs

@@ -1,8 +1,8 @@
 -- What an entry does to a row that is there.
 use Rattle.std.proofs.Common.{◌≡◌, ◌≤◌, ◌<◌, ℕ, List, [], ◌∷◌, map, Option, Some, None, refl, sym, ap, ◌∙◌, true, false, Bool, cond, arith, ltb}
 use Rattle.std.proofs.{lemmas.Bool.ltb-true, lemmas.Bool.lt-ltb, lemmas.Bool.and_parts, lemmas.Bool.or_parts, lemmas.Bool.Decides.nat_tests}
-use Rattle.std.specs.{Prelude.◌==◌, Prelude.◌||◌, Prelude.is_some, List.list_any}
-use Rattle.desk_model.specs.Authorization.{ends, in_time, authorization_end, authorization_status, ends_by, when_proved, proving, answer, answer_by, answering}
+use Rattle.std.specs.{Prelude.◌==◌, Prelude.◌&&◌, Prelude.◌||◌, Prelude.is_some, List.list_any}
+use Rattle.desk_model.specs.Authorization.{ends, in_time, authorization_end, authorization_status, ends_by, when_proved, proving, answer, answer_by}
 use Rattle.desk_model.specs.Authorization.{reporting, when_answered, report, challenge_status, is_good, has_challenge}
 use Rattle.desk_model.specs.Effect.{key_numbered, noted_challenge, noted_authorization, row_ends, has_row, touches_authorization, moved_authorization}
 use Rattle.desk_model.specs.Effect.{is_overdue, swept_authorization}
@@ -25,10 +25,7 @@ answer_some key o = grind arith
 -- an answer stands where the challenge was answered
 pub answered_alike : (account n : ℕ) (F : History) → is_some (answer account n F) ≡ is_some (when_answered n F)
 answered_alike account n [] = refl
-answered_alike account n (e ∷ F) =
-    is_some-earlier (answer account n F) (answer_by (account_key account F) (answering n e.entry e.date))
-    ∙ (λ i. answered_alike account n F i || answer_some (account_key account F) (answering n e.entry e.date) i)
-    ∙ sym (is_some-earlier (when_answered n F) (answering n e.entry e.date))
+answered_alike account n (e ∷ F) = grind (arith, is_some-earlier, answer_some, (answered_alike account n F))
 
 -- the row of a challenge after an entry
 challenge_moves : (F : History) (e : Entry) (m account : ℕ) (c : Challenge) →
@@ -79,26 +76,16 @@ good_on : (n : ℕ) (o : Outcome) (m : ℕ) (F : History) → report n F ≡ Non
     ≡ (is_good_report (report c.number F) || is_good_report (reporting c.number (reported n o) m))
 good_on n o m F none c = grind arith
 
+-- a good report on a challenge is one on each of its number
+good_any : (n : ℕ) (o : Outcome) (m : ℕ) (cs : List Challenge) →
+    list_any (λ c. is_good_report (reporting c.number (reported n o) m)) cs ≡ (is_good o && list_any (λ c. n == c.number) cs)
+good_any n o m [] = grind arith
+good_any n o m (c ∷ cs) = grind (arith, (good_any n o m cs))
+
 -- an entry proves an authorization where it reports well on one of its challenges
 proving_any : (a : Authorization) (n : ℕ) (o : Outcome) (m : ℕ) →
     is_some (proving a (reported n o) m) ≡ list_any (λ c. is_good_report (reporting c.number (reported n o) m)) a.challenges
-proving_any a n o m = by (is_good o) refl
-  where
-    each_one : (b c : Bool) → is_good o ≡ b → is_good_report (cond c (Some (record { date = m; outcome = o })) None) ≡ cond b c false
-    each_one k l h = grind arith
-
-    nowhere : (cs : List Challenge) → list_any (λ (c : Challenge). false) cs ≡ false
-    nowhere [] = refl
-    nowhere (c ∷ cs) = nowhere cs
-
-    chosen : (b : Bool) → is_some (cond {A = Option ℕ} b (Some m) None) ≡ b
-    chosen g = grind arith
-
-    by : (b : Bool) → is_good o ≡ b →
-        is_some (cond {A = Option ℕ} b (cond {A = Option ℕ} (has_challenge n a) (Some m) None) None)
-        ≡ list_any (λ c. is_good_report (reporting c.number (reported n o) m)) a.challenges
-    by true e = chosen (has_challenge n a) ∙ sym (list_any-same _ (λ c. n == c.number) a.challenges (λ c. each_one true (n == c.number) e))
-    by false e = sym (list_any-same _ (λ c. false) a.challenges (λ c. each_one false (n == c.number) e) ∙ nowhere a.challenges)
+proving_any a n o m = grind (arith, (good_any n o m a.challenges))
 
 -- a good report stands exactly where one of the challenges has a good one: there is never a second report
 pub proved_by : (a : Authorization) (F : History) → EachFollows F → is_some (when_proved a F) ≡ list_any (λ c. is_good_report (report c.number F)) a.challenges
@@ -176,13 +163,7 @@ authorization_kept F e m a each le h = grind (arith, nat_tests, authorization_no
 -- the row of an authorization after an entry
 pub authorization_moves : (F : History) (e : Entry) (m : ℕ) (a : Authorization) → EachFollows (record { date = m; entry = e } ∷ F) → clock F ≤ m →
     authorization_row (record { date = m; entry = e } ∷ F) m a ≡ moved_authorization e m (map (account_row F) (accounts F)) (authorization_row F m a)
-authorization_moves F e m a each le = by (touches_authorization e (authorization_row F m a)) refl
-  where
-    by : (b : Bool) → touches_authorization e (authorization_row F m a) ≡ b →
-        authorization_row (record { date = m; entry = e } ∷ F) m a
-        ≡ cond b (restated_authorization m (noted_authorization e m (map (account_row F) (accounts F)) (authorization_row F m a))) (authorization_row F m a)
-    by true h = authorization_noted F e m m a each le
-    by false h = authorization_kept F e m a each le h
+authorization_moves F e m a each le = grind (arith, (authorization_noted F e m m a each le), (authorization_kept F e m a each le))
 
 -- ---- the passing of time
 

@@ -1,9 +1,10 @@
 -- Rows put into their places by number.
-use Rattle.std.proofs.Common.{Some, None, ◌≡◌, ◌≤◌, ◌<◌, ℕ, ◌+◌, List, [], ◌∷◌, ◌++◌, map, filter, refl, sym, ap, ◌∙◌, false, Bool, cond, arith, not}
+use Rattle.std.proofs.Common.{Some, None, ◌≡◌, ◌≤◌, ◌<◌, ℕ, ◌+◌, List, [], ◌∷◌, ◌++◌, map, filter, refl, sym, ap, ◌∙◌, append-nil, append_assoc, false, Bool}
+use Rattle.std.proofs.Common.{cond, arith, not}
 use Rattle.std.specs.Prelude.{find, ◌==◌}
 use Rattle.desk_model.specs.{Change.put, Change.remove, Change.moved_rows, Kept.EachOf}
 use Rattle.model_laws.specs.{Ordered.Ascends, Ordered.Below, Placing.puts, Placing.removes}
-use Rattle.model_laws.proofs.Basics.{less_differs, more_differs, each, each_all, map-each, IsNumbered}
+use Rattle.model_laws.proofs.Basics.{less_differs, more_differs, each, each_all, each-append, map-each, IsNumbered}
 
 -- from a lower number on
 pub ascends_from : {X : Type 0} (number : X → ℕ) (m n : ℕ) (xs : List X) → m ≤ n → Ascends number n xs → Ascends number m xs
@@ -25,6 +26,18 @@ ascends_map number other f same n (x ∷ xs) h = grind (arith, (ascends_map numb
 pub ascends_filter : {X : Type 0} (number : X → ℕ) (p : X → Bool) (n : ℕ) (xs : List X) → Ascends number n xs → Ascends number n (filter p xs)
 ascends_filter number p n [] h = tt
 ascends_filter number p n (x ∷ xs) h = grind (arith, ascends_from, (ascends_filter number p (number x + 1) xs h.1))
+
+-- maps that keep numbers keep them below
+pub below_map : {X Y : Type 0} (number : X → ℕ) (other : Y → ℕ) (f : X → Y) (same : (x : X) → other (f x) ≡ number x) (k : ℕ) (xs : List X) →
+    Below number k xs → Below other k (map f xs)
+below_map number other f same k [] h = tt
+below_map number other f same k (x ∷ xs) h =
+    ((let e : other (f x) ≡ number x = same x in let lt : number x < k = h.0 in omega arith), below_map number other f same k xs h.1)
+
+-- what is left is below
+pub below_filter : {X : Type 0} (number : X → ℕ) (p : X → Bool) (k : ℕ) (xs : List X) → Below number k xs → Below number k (filter p xs)
+below_filter number p k [] h = tt
+below_filter number p k (x ∷ xs) h = grind (arith, (below_filter number p k xs h.1))
 
 -- each number is above n
 abbrev pub Above : {X : Type 0} → (X → ℕ) → ℕ → List X → Type 0
@@ -79,24 +92,13 @@ put_last number x (y ∷ ys) h = put_past number x y ys h.0 ∙ ap (λ l. y ∷ 
 
 -- rows above all others come last
 pub puts_last : {X : Type 0} (number : X → ℕ) (n : ℕ) (xs rows : List X) → Ascends number n xs → Below number n rows → puts number xs rows ≡ rows ++ xs
-puts_last number n [] rows h below = sym (nothing rows)
-  where
-    nothing : {X : Type 0} (ys : List X) → ys ++ [] ≡ ys
-    nothing [] = refl
-    nothing (y ∷ ys) = ap (λ l. y ∷ l) (nothing ys)
+puts_last number n [] rows h below = sym (append-nil rows)
 puts_last number n (x ∷ xs) rows h below =
     let first_up : n ≤ number x = h.0 in
-    ap (puts number xs) (put_last number x rows (each _ _ rows (λ y k. let lt : number y < n = k in omega arith) below))
-    ∙ puts_last number (number x + 1) xs (rows ++ x ∷ []) h.1 (more rows below)
-    ∙ joined rows
-  where
-    more : (ys : List _) → Below number n ys → Below number (number x + 1) (ys ++ x ∷ [])
-    more [] k = (omega arith, tt)
-    more (y ∷ ys) k = ((let lt : number y < n = k.0 in let up : n ≤ number x = h.0 in omega arith), more ys k.1)
-
-    joined : (ys : List _) → (ys ++ x ∷ []) ++ xs ≡ ys ++ x ∷ xs
-    joined [] = refl
-    joined (y ∷ ys) = ap (λ l. y ∷ l) (joined ys)
+    ap (puts number xs) (put_last number x rows (each _ _ rows (λ y (lt : number y < n). omega arith) below))
+    ∙ puts_last number (number x + 1) xs (rows ++ x ∷ []) h.1
+    (each-append _ rows (x ∷ []) (each _ _ rows (λ y (lt : number y < n). omega arith) below) (omega arith, tt))
+    ∙ append_assoc rows (x ∷ []) xs
 
 -- rows that stand by number make the table of themselves
 pub puts_ascending : {X : Type 0} (number : X → ℕ) (n : ℕ) (xs : List X) → Ascends number n xs → puts number xs [] ≡ xs

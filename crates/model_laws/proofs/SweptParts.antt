@@ -1,10 +1,9 @@
 -- A part after the sweep: closed, and covering what it covered.
-use Rattle.std.proofs.Common.{◌≡◌, ℕ, List, [], ◌∷◌, map, Some, refl, ap, ◌∙◌, true, false, Bool, cond, arith, rules}
-use Rattle.std.specs.Prelude.{◌==◌, ◌||◌}
+use Rattle.std.proofs.Common.{◌≡◌, ℕ, List, [], ◌∷◌, map, refl, arith, rules}
 use Rattle.desk_model.specs.Effect.{touches_authorization, lists_one, is_overdue, falls, swept, swept_authorization, swept_order}
-use Rattle.desk_model.specs.{Lookup.holds, Tables.Tables, declared.entry.Entry.Entry, declared.rows.AuthorizationRow.AuthorizationRow}
-use Rattle.desk_model.specs.{declared.rows.OrderRow.OrderRow, Derived.numbers_of, Derived.authorization_numbered, Kept.Kept, Kept.IsClosed, Kept.Covers}
-use Rattle.model_laws.proofs.{Basics.each, Basics.each-map, Basics.one_kept, Local.swept_number, Local.swept_order_number}
+use Rattle.desk_model.specs.{Tables.Tables, declared.entry.Entry.Entry, declared.rows.AuthorizationRow.AuthorizationRow}
+use Rattle.desk_model.specs.{declared.rows.OrderRow.OrderRow, Derived.numbers_of, Kept.Kept, Kept.IsClosed, Kept.Covers}
+use Rattle.model_laws.proofs.{Basics.each, Basics.each-map, Basics.find-moved, Basics.one_kept, Local.swept_number, Local.swept_order_number}
 
 -- ---- an entry after the sweep
 
@@ -16,24 +15,7 @@ touches_swept e m row = grind arith
 lists_swept : (e : Entry) (m : ℕ) (rows : List AuthorizationRow) (ns : List ℕ) →
     lists_one (touches_authorization e) (map (swept_authorization m) rows) ns ≡ lists_one (touches_authorization e) rows ns
 lists_swept e m rows [] = refl
-lists_swept e m rows (n ∷ ns) = λ i. one rows i || lists_swept e m rows ns i
-  where
-    one : (xs : List AuthorizationRow) →
-        holds (touches_authorization e) (authorization_numbered n (map (swept_authorization m) xs))
-        ≡ holds (touches_authorization e) (authorization_numbered n xs)
-    one [] = refl
-    one (x ∷ xs) =
-        ap (λ k. holds (touches_authorization e)
-        (cond (k == n) (Some (swept_authorization m x)) (authorization_numbered n (map (swept_authorization m) xs)))) (swept_number m x)
-        ∙ by (x.number == n) (one xs)
-      where
-        by : (b : Bool) →
-            holds (touches_authorization e) (authorization_numbered n (map (swept_authorization m) xs))
-            ≡ holds (touches_authorization e) (authorization_numbered n xs) →
-            holds (touches_authorization e) (cond b (Some (swept_authorization m x)) (authorization_numbered n (map (swept_authorization m) xs)))
-            ≡ holds (touches_authorization e) (cond b (Some x) (authorization_numbered n xs))
-        by true ih = touches_swept e m x
-        by false ih = ih
+lists_swept e m rows (n ∷ ns) = grind (arith, find-moved, swept_number, touches_swept, (lists_swept e m rows ns))
 
 -- a swept order keeps its list
 swept_listed : (m : ℕ) (rows : List AuthorizationRow) (o : OrderRow) → numbers_of (swept_order m rows o).listed ≡ numbers_of o.listed

@@ -1,38 +1,29 @@
 -- An answer to a challenge changes no order, where each status is the one that its row gives: so the orders that list its authorization may lack.
-use Rattle.std.proofs.Common.{◌≡◌, ◌≤◌, ℕ, List, [], ◌∷◌, ◌++◌, map, Option, Some, None, refl, sym, ap, subst, ◌∙◌, true, false, Bool, cond, Result, Ok, Err}
-use Rattle.std.proofs.Common.{arith, rules}
+use Rattle.std.proofs.Common.{◌≡◌, ◌≤◌, ℕ, List, [], ◌∷◌, ◌++◌, map, refl, sym, ap, subst, ◌∙◌, true, false, Bool, cond, arith, rules}
 use Rattle.std.proofs.lemmas.Bool.{or_left}
 use Rattle.std.specs.{Prelude.◌==◌, Prelude.◌&&◌, Prelude.◌||◌, List.list_any}
 use Rattle.desk_model.specs.Change.{all_changes, changes, order_differs, recorded_changes}
 use Rattle.desk_model.specs.Derived.{and_status, authorization_numbered, numbers_of, restated_authorization, restated_order, stored_statuses}
-use Rattle.desk_model.specs.Effect.{answered_challenge, authorizations_after, effect, effects, has_row, moved_authorization, noted_challenge, noted_order}
-use Rattle.desk_model.specs.Effect.{swept, touches_order}
+use Rattle.desk_model.specs.Effect.{answered_challenge, authorizations_after, effect, effects, moved_authorization, noted_challenge, noted_order, touches_order}
+use Rattle.desk_model.specs.Effect.{has_row, swept}
 use Rattle.desk_model.specs.Kept.{CoversSweep, EachOf, HoldersKept, IsClosed, Kept, restricted}
-use Rattle.desk_model.specs.Rules.{challenge_verdict, key_verdict, open_nonce, own, signed_verdict, stands_open}
-use Rattle.desk_model.specs.Tables.{Tables, authorization_row, order_row, picture}
 use Rattle.desk_model.specs.declared.entry.Entry.TheVariants.{Answered as answered, Issued as issued, Spent as spent}
 use Rattle.desk_model.specs.declared.verdict.Verdict.TheVariants.{Refused as refused, KeyTaken as key_taken, Answers as answers, Moves as moves}
-use Rattle.desk_model.specs.{Account.is_valid as is_valid_account, Decide.entries_of, Entry.History, History.clock, Lookup.holds, Payload.challenge_change}
-use Rattle.desk_model.specs.{Order.orders, Authorization.is_good, Authorization.authorizations, Legal.EachFollows, Legal.is_pending_challenge}
-use Rattle.desk_model.specs.{Questions.account_with_key, Questions.owner_on, Shown.moved_reply, Shown.reply_of, declared.call.Ask.Ask}
-use Rattle.desk_model.specs.{declared.call.BadKey.BadKey, declared.call.Signed.Signed, declared.payload.ChallengeChange.ChallengeChange}
-use Rattle.desk_model.specs.{declared.rows.AccountRow.AccountRow, declared.rows.AuthorizationRow.AuthorizationRow, declared.rows.Change.TheVariants.PutMeta}
-use Rattle.desk_model.specs.{declared.rows.ChallengeRow.ChallengeRow, declared.rows.OrderRow.OrderRow, declared.verdict.Verdict.Verdict}
-use Rattle.desk_model.specs.{declared.status.AuthzStatus.AuthzStatus, declared.call.Target.Target}
-use Rattle.desk_model.specs.declared.call.Target.TheVariants as to
-use Rattle.desk_model.specs.declared.entry.Move.TheVariants as move
-use Rattle.desk_model.specs.declared.payload.ChallengeChange.TheVariants as chall_change
-use Rattle.desk_model.specs.declared.refusal.Refusal.TheVariants as refusal
-use Rattle.model_laws.proofs.Basics.{each, each_all, each_both, each-map}
+use Rattle.desk_model.specs.{Rules.signed_verdict, Tables.authorization_row, Shown.moved_reply, declared.call.Ask.Ask, Authorization.is_good, Legal.EachFollows}
+use Rattle.desk_model.specs.{Tables.Tables, Tables.order_row, Tables.picture, Entry.History, History.clock, Lookup.holds, Shown.reply_of, Order.orders}
+use Rattle.desk_model.specs.{Decide.entries_of, declared.rows.AccountRow.AccountRow, declared.verdict.Verdict.Verdict, declared.status.AuthzStatus.AuthzStatus}
+use Rattle.desk_model.specs.{Authorization.authorizations, declared.call.Signed.Signed, declared.rows.OrderRow.OrderRow, declared.call.Target.Target}
+use Rattle.desk_model.specs.{declared.rows.AuthorizationRow.AuthorizationRow, declared.rows.Change.TheVariants.PutMeta, declared.rows.ChallengeRow.ChallengeRow}
 use Rattle.model_laws.proofs.Local.{changes_local, kept_after, moved_number, restated_same, sweep_changes_local, swept_part, touches_same}
 use Rattle.model_laws.proofs.Plain.{covers_issued, covers_spent, issued_closed, issued_effect, nonces_covered, spent_closed, spent_effect}
-use Rattle.model_laws.proofs.{Chain.effect_part, Chain.recorded_local, Differing.order_differs_not, RowFacts.authorization_stated, Step.sweep}
-use Rattle.model_laws.proofs.{OrderFacts.order_stated, OrderFacts.restated_alike, SweptParts.swept_closed}
-use Rattle.model_lives.proofs.Grown.{KeepsNamed, KeepsRestated, keeps_falling, target_answers}
-use Rattle.model_lives.proofs.{Steps.check_keeps, Steps.either_keeps, Steps.given_keeps, Between.bare, Enough.carried_by, Lists.filtered_each}
-use Rattle.model_lives.proofs.{Ready.swept_names, Walks.sent, Replies.client_challenge_shown, Replies.owner_after, Unlisted.bare_changes, Unlisted.moves_order}
-use Rattle.model_lives.proofs.{Verdicts.nonce_same, Verdicts.signed_same, Verdicts.verdict_by}
+use Rattle.model_laws.proofs.{Basics.each, Basics.each_all, Basics.each_both, Basics.each-map, Chain.recorded_local, Step.sweep, SweptParts.swept_closed}
+use Rattle.model_laws.proofs.{Chain.effect_part, Differing.order_differs_not, RowFacts.authorization_stated, OrderFacts.order_stated, OrderFacts.restated_alike}
+use Rattle.model_lives.proofs.{Grown.KeepsNamed, Judged.OfAccount, Judged.OfRequest, Judged.sent, Between.bare, Enough.carried_by, Ready.swept_names}
+use Rattle.model_lives.proofs.{Grown.KeepsRestated, Grown.keeps_falling, Lists.filtered_each, Verdicts.nonce_same, Replies.owner_after, Unlisted.moves_order}
+use Rattle.model_lives.proofs.{Grown.target_answers, Judged.request_judged, Verdicts.signed_same, Replies.client_challenge_shown, Unlisted.bare_changes}
 use Rattle.model_lives.specs.{AnswersAs.CarriesOutAs, AnswersAs.PassesAs, MinimalPart.IsStated, MinimalPart.IsStatedFor, MinimalPart.IsStatedTo}
+use Rattle.desk_model.specs.declared.call.Target.TheVariants as to
+use Rattle.desk_model.specs.declared.entry.Move.TheVariants as move
 
 -- ---- statuses stand
 
@@ -139,23 +130,18 @@ entries_same k m n r j S closed holders owners h =
     closed2 : IsClosed k S2
     closed2 = issued_closed k m S1 r closed1
 
-    holders1 : HoldersKept k S1 (answered j)
-    holders1 = subst (λ U. HoldersKept k U (answered j)) (sym (spent_effect m S n)) holders
+    -- what speaks of authorizations and orders alone stands after both
+    stands : (P : Tables → Type 0) → P (record S { meta = S2.meta; nonces = S2.nonces }) → P S2
+    stands P = subst P (sym (ap (λ U. effect m U (issued r)) (spent_effect m S n) ∙ issued_effect m (record S { meta = S1.meta; nonces = S1.nonces }) r))
 
     holders2 : HoldersKept k S2 (answered j)
-    holders2 = subst (λ U. HoldersKept k U (answered j)) (sym (issued_effect m S1 r)) holders1
-
-    owners1 : OwnersKept k S1 j
-    owners1 = subst (λ U. OwnersKept k U j) (sym (spent_effect m S n)) owners
+    holders2 = stands (λ U. HoldersKept k U (answered j)) holders
 
     owners2 : OwnersKept k S2 j
-    owners2 = subst (λ U. OwnersKept k U j) (sym (issued_effect m S1 r)) owners1
-
-    stated1 : IsStated m S1
-    stated1 = subst (IsStated m) (sym (spent_effect m S n)) (record { authorizations = h.authorizations; orders = h.orders })
+    owners2 = stands (λ U. OwnersKept k U j) owners
 
     stated2 : IsStated m S2
-    stated2 = subst (IsStated m) (sym (issued_effect m S1 r)) (record { authorizations = stated1.authorizations; orders = stated1.orders })
+    stated2 = stands (IsStated m) (record { authorizations = h.authorizations; orders = h.orders })
 
 -- ---- what is shown
 
@@ -170,32 +156,22 @@ IsReplied k m S (moves (move.Answered n)) =
 IsReplied k m S _ = ⊥
 
 -- the owner and its account are kept
-challenge_replied : (k : Kept) (m : ℕ) (S : Tables) (j : ℕ) (r : AuthorizationRow) (p : ChallengeChange) → IsClosed k S → HoldersKept k S (answered j) →
-    OwnersKept k S j → IsReplied k m S (challenge_verdict j r p)
-challenge_replied k m S j r chall_change.Read closed holders owners = client_challenge_shown k S j owners
-challenge_replied k m S j r chall_change.Answer closed holders owners =
-    either_keeps (IsReplied k m S) (stands_open (λ c. is_pending_challenge c.status) r j) _ _ (
-      (holders, owners),
-      client_challenge_shown k (effect m S (answered j)) j (owner_after k S m (answered j) j closed owners),
-    )
-    (client_challenge_shown k S j owners)
+account_way : (k : Kept) (m : ℕ) (S : Tables) (r : List ℕ) (n : ℕ) (p : List ℕ) (j : ℕ) (v : Verdict) → IsClosed k S → HoldersKept k S (answered j)
+    → OwnersKept k S j → OfAccount S r n p (to.Chall j) v → IsReplied k m S v
+account_way k m S r n p j v closed holders owners (OfAccount.turned_away t why ss) = tt
+account_way k m S r n p j v closed holders owners (OfAccount.challenge_read i a found) = client_challenge_shown k S j owners
+account_way k m S r n p j v closed holders owners (OfAccount.challenge_answered i a found is waits) =
+    ((holders, owners), client_challenge_shown k (effect m S (answered j)) j (owner_after k S m (answered j) j closed owners))
 
--- by the account that the key has
-key_replied : (k : Kept) (m : ℕ) (S : Tables) (r key p : List ℕ) (j : ℕ) (o : Option AccountRow) → IsClosed k S → HoldersKept k S (answered j) →
-    OwnersKept k S j → IsReplied k m S (key_verdict S r key p (to.Chall j) o)
-key_replied k m S r key p j None closed holders owners = tt
-key_replied k m S r key p j (Some x) closed holders owners =
-    check_keeps (IsReplied k m S) (is_valid_account x.status) refusal.Unauthorized _ tt (λ valid.
-    given_keeps (IsReplied k m S) (own (λ (y : AuthorizationRow). y.account) x.number (owner_on S j)) refusal.NotFound _ tt (λ a is.
-    given_keeps (IsReplied k m S) (challenge_change p) refusal.Malformed _ tt (λ q says. challenge_replied k m S j a q closed holders owners)))
+request_way : (k : Kept) (m : ℕ) (S : Tables) (r : List ℕ) (s : Signed) (j : ℕ) (v : Verdict) → IsClosed k S → HoldersKept k S (answered j)
+    → OwnersKept k S j → OfRequest S r s (to.Chall j) v → IsReplied k m S v
+request_way k m S r s j v closed holders owners (OfRequest.unheld t why) = tt
+request_way k m S r s j v closed holders owners (OfRequest.held t w key x is found valid way) =
+    account_way k m S r x.number s.payload j v closed holders owners way
 
 signed_replied : (k : Kept) (m : ℕ) (S : Tables) (r : List ℕ) (s : Signed) (j : ℕ) → IsClosed k S → HoldersKept k S (answered j) → OwnersKept k S j →
     IsReplied k m S (signed_verdict S r (record s { target = to.Chall j }))
-signed_replied k m S r s j closed holders owners = by s.key
-  where
-    by : (key : Result (List ℕ) BadKey) → IsReplied k m S (verdict_by S r (record s { target = to.Chall j }) key)
-    by (Err why) = tt
-    by (Ok key) = key_replied k m S r key s.payload j (account_with_key S key) closed holders owners
+signed_replied k m S r s j closed holders owners = request_way k m S r _ j _ closed holders owners (request_judged S r (record s { target = to.Chall j }))
 
 -- ---- the request
 
@@ -230,29 +206,37 @@ records_answer k T m _ closed covers stated h n fresh = absurd h
 swept_holders : (k : Kept) (T : Tables) (m j : ℕ) → HoldersKept k T (answered j) → HoldersKept k (swept m T) (answered j)
 swept_holders k T m j h = grind (arith, each-map, each)
 
+-- so the verdict on an answer is shown by such a part, whatever the random bytes
+chall_replied : (b : Bool) (k : Kept) (T : Tables) (m : ℕ) (s : Signed) (j : ℕ) (r : List ℕ) → IsClosed k T → KeepsRestated b k T m (sent s (to.Chall j))
+    → KeepsNamed k T (sent s (to.Chall j)) → IsReplied k m (swept m T) (signed_verdict (swept m T) r (record s { target = to.Chall j }))
+chall_replied b k T m s j r closed restated kept =
+    signed_replied k m (swept m T) r s j (swept_closed k T m closed)
+    (swept_holders k T m j (each _ _ T.authorizations (λ r f has. f (or_left _ _ has)) restated.holders)) (swept_names k T m (sent s (to.Chall j)) kept).owner
+
+-- which is the same
+chall_judged : (k : Kept) (T : Tables) (m : ℕ) (s : Signed) (j : ℕ) (r : List ℕ) → IsClosed k T → KeepsNamed k T (sent s (to.Chall j)) →
+    signed_verdict (swept m (restricted k T)) r (record s { target = to.Chall j }) ≡ signed_verdict (swept m T) r (record s { target = to.Chall j })
+chall_judged k T m s j r closed kept =
+    ap (λ P. signed_verdict P r (record s { target = to.Chall j })) (swept_part k T m closed)
+    ∙ signed_same k (swept m T) r (record s { target = to.Chall j }) (swept_names k T m (sent s (to.Chall j)) kept)
+
 passes_chall : (b : Bool) (k : Kept) (T : Tables) (m : ℕ) (s : Signed) (j : ℕ) → IsStated m (swept m T) → IsClosed k T →
     KeepsRestated b k T m (sent s (to.Chall j)) → KeepsNamed k T (sent s (to.Chall j)) → PassesAs m (record s { target = to.Chall j }) T (restricted k T)
 passes_chall b k T m s j stated closed restated kept =
-    record {
-      nonce = ap (λ P. open_nonce P s.nonce) (swept_part k T m closed) ∙ nonce_same k (swept m T) (record s { target = to.Chall j }) named.nonce;
-      issues = record { records = λ r. recorded_local k T m (issued r ∷ []) closed covers (swept_closed k T m closed, covers_issued k (swept m T) r, tt, tt) };
-      judged = λ r. ap (λ P. signed_verdict P r (record s { target = to.Chall j })) (swept_part k T m closed)
-          ∙ signed_same k (swept m T) r (record s { target = to.Chall j }) named;
-      verdict = λ r. carried_answer k T m (signed_verdict (swept m T) r (record s { target = to.Chall j })) closed (replied r);
-      records = λ r n fresh. records_answer k T m (signed_verdict (swept m T) r (record s { target = to.Chall j })) closed covers stated (replied r) n fresh;
-    }
-  where
-    covers : CoversSweep k T m
-    covers = keeps_falling b k T m (sent s (to.Chall j)) restated
-
-    named : KeepsNamed k (swept m T) (sent s (to.Chall j))
-    named = swept_names k T m (sent s (to.Chall j)) kept
-
-    holders : HoldersKept k T (answered j)
-    holders = each _ _ T.authorizations (λ r f has. f (or_left _ _ has)) restated.holders
-
-    replied : (r : List ℕ) → IsReplied k m (swept m T) (signed_verdict (swept m T) r (record s { target = to.Chall j }))
-    replied r = signed_replied k m (swept m T) r s j (swept_closed k T m closed) (swept_holders k T m j holders) named.owner
+    search (
+      rules,
+      keeps_falling,
+      swept_part,
+      swept_names,
+      nonce_same,
+      recorded_local,
+      covers_issued,
+      swept_closed,
+      chall_judged,
+      carried_answer,
+      chall_replied,
+      records_answer,
+    )
 
 -- an answer by a part that keeps the authorization and its account
 pub passes_answer : (b : Bool) (k : Kept) (T : Tables) (m : ℕ) (s : Signed) (t : Target) → target_answers t s.payload ≡ true → IsStatedTo t m T → IsClosed k T →

@@ -1,13 +1,12 @@
 -- A part that holds what a call touches answers as the touched rows do, and so as the whole.
 use Rattle.std.proofs.Common.{◌≡◌, ◌≤◌, ℕ, ◌+◌, max, List, [], ◌∷◌, map, filter, refl, sym, ap, subst, ◌∙◌, true, Bool, arith, rules}
-use Rattle.std.proofs.{lemmas.Bool.and_from, lemmas.Bool.and_parts, lemmas.Bool.eqb-true, lemmas.Bool.or_left, lemmas.Bool.or_right, lemmas.Simd.map-map}
-use Rattle.std.specs.{Prelude.◌==◌, Prelude.◌&&◌, Prelude.◌||◌, List.list_any}
+use Rattle.std.proofs.{lemmas.Bool.and_parts, lemmas.Bool.eqb-true, lemmas.Bool.or_left, lemmas.Bool.or_right, lemmas.Simd.map-map}
+use Rattle.std.specs.{Prelude.◌==◌, Prelude.◌&&◌, List.list_any}
 use Rattle.desk_model.specs.Effect.{effect, effects, falls, fresh_order, moved_order, swept, swept_order, touches_order}
 use Rattle.desk_model.specs.Kept.{EachOf, HoldersKept, IsClosed, Kept, restricted}
 use Rattle.desk_model.specs.declared.entry.Entry.TheVariants.{Issued as issued, Opened as opened, Ordered as ordered, Spent as spent}
-use Rattle.desk_model.specs.Touched.{is_asked_authorization, is_first_authorization, is_named_account, is_named_order, is_own_authorization, is_own_order}
-use Rattle.desk_model.specs.Touched.{is_past_order, is_touched_account, is_touched_authorization, is_touched_nonce, is_touched_order, lists, only_meta}
-use Rattle.desk_model.specs.Touched.{touched_at, touched_rows}
+use Rattle.desk_model.specs.Touched.{is_asked_authorization, is_first_authorization, is_own_authorization, is_own_order, touched_at, touched_rows}
+use Rattle.desk_model.specs.Touched.{is_touched_account, is_touched_authorization, is_touched_nonce, is_touched_order, lists, only_meta}
 use Rattle.desk_model.specs.{Decide.entries_of, Decide.verdict_reply, Derived.restated_order, Order.ordered_by, Tables.Tables, Entry.entry_of}
 use Rattle.desk_model.specs.{Change.recorded_changes, Rules.office_verdict, Rules.signed_verdict, declared.call.Ask.Ask, declared.call.OfficeAsk.OfficeAsk}
 use Rattle.desk_model.specs.{declared.call.Call.Call, declared.call.Signed.Signed, declared.entry.Entry.Entry, declared.objects.Nonce.Nonce}
@@ -46,38 +45,42 @@ first_wider : (k : Kept) (T : Tables) (m : ℕ) (a : Ask) (r : AuthorizationRow)
     → is_first_authorization T m a r ≡ true
 first_wider k T m a r h = grind (arith, own_authorization_wider)
 
+-- of what passes in the part, and lies by a row, some passes in the whole
+any_beside : {X : Type 0} (p q beside kept : X → Bool) (xs : List X) → ((x : X) → p x ≡ true → q x ≡ true)
+    → list_any (λ x. p x && beside x) (filter kept xs) ≡ true → list_any (λ x. q x && beside x) xs ≡ true
+any_beside p q beside kept [] f h = h
+any_beside p q beside kept (x ∷ xs) f h = grind (arith, (any_beside p q beside kept xs f))
+
 order_wider : (k : Kept) (T : Tables) (m : ℕ) (a : Ask) (o : OrderRow) → is_touched_order (restricted k T) m a o ≡ true → is_touched_order T m a o ≡ true
 order_wider k T m a o h =
-    or_cases (is_named_order a o || (is_own_order (restricted k T) a o || is_past_order m o)) _ h
-    (λ e. or_left _ _ (or_cases (is_named_order a o) _ e (λ f. or_left _ _ f) (λ f. or_right (is_named_order a o) _
-    (or_cases (is_own_order (restricted k T) a o) _ f (λ g. or_left _ _ (own_order_wider k T a o g)) (λ g. or_right (is_own_order T a o) _ g)))))
-    (λ e. or_right _ _ (any_part (λ r. is_first_authorization (restricted k T) m a r && lists o r.number)
-    (λ r. is_first_authorization T m a r && lists o r.number) (λ r. k.authorizations r.number) T.authorizations
-    (λ r f. let p = and_parts (is_first_authorization (restricted k T) m a r) _ f in and_from _ _ (first_wider k T m a r p.0) p.1) e))
+    grind (
+      arith,
+      own_order_wider,
+      (any_beside (is_first_authorization (restricted k T) m a) (is_first_authorization T m a) (λ r. lists o r.number)
+          (λ r. k.authorizations r.number) T.authorizations (first_wider k T m a)),
+    )
 
 authorization_wider : (k : Kept) (T : Tables) (m : ℕ) (a : Ask) (r : AuthorizationRow)
     → is_touched_authorization (restricted k T) m a r ≡ true → is_touched_authorization T m a r ≡ true
 authorization_wider k T m a r h =
-    or_cases (is_first_authorization (restricted k T) m a r) _ h (λ e. or_left _ _ (first_wider k T m a r e))
-    (λ e. or_right (is_first_authorization T m a r) _
-    (or_cases (list_any (λ o. is_touched_order (restricted k T) m a o && lists o r.number) (restricted k T).orders) _ e
-    (λ f. or_left _ _ (any_part (λ o. is_touched_order (restricted k T) m a o && lists o r.number) (λ o. is_touched_order T m a o && lists o r.number)
-    (λ o. k.orders o.number) T.orders
-    (λ o g. let p = and_parts (is_touched_order (restricted k T) m a o) _ g in and_from _ _ (order_wider k T m a o p.0) p.1) f))
-    (λ f. or_right (list_any (λ o. is_touched_order T m a o && lists o r.number) T.orders) _ (asked_wider k T a r f))))
+    grind (
+      arith,
+      first_wider,
+      asked_wider,
+      (any_beside (is_touched_order (restricted k T) m a) (is_touched_order T m a) (λ o. lists o r.number)
+          (λ o. k.orders o.number) T.orders (order_wider k T m a)),
+    )
 
 account_wider : (k : Kept) (T : Tables) (m : ℕ) (a : Ask) (x : AccountRow) → is_touched_account (restricted k T) m a x ≡ true
     → is_touched_account T m a x ≡ true
 account_wider k T m a x h =
-    or_cases (is_named_account a x) _ h (λ e. or_left _ _ e) (λ e. or_right (is_named_account a x) _
-    (or_cases (list_any (λ o. is_touched_order (restricted k T) m a o && (o.account == x.number)) (restricted k T).orders) _ e
-    (λ f. or_left _ _ (any_part (λ o. is_touched_order (restricted k T) m a o && (o.account == x.number))
-    (λ o. is_touched_order T m a o && (o.account == x.number)) (λ o. k.orders o.number) T.orders
-    (λ o g. let p = and_parts (is_touched_order (restricted k T) m a o) _ g in and_from _ _ (order_wider k T m a o p.0) p.1) f))
-    (λ f. or_right (list_any (λ o. is_touched_order T m a o && (o.account == x.number)) T.orders) _
-    (any_part (λ r. is_touched_authorization (restricted k T) m a r && (r.account == x.number))
-    (λ r. is_touched_authorization T m a r && (r.account == x.number)) (λ r. k.authorizations r.number) T.authorizations
-    (λ r g. let p = and_parts (is_touched_authorization (restricted k T) m a r) _ g in and_from _ _ (authorization_wider k T m a r p.0) p.1) f))))
+    grind (
+      arith,
+      (any_beside (is_touched_order (restricted k T) m a) (is_touched_order T m a) (λ o. o.account == x.number) (λ o. k.orders o.number) T.orders
+          (order_wider k T m a)),
+      (any_beside (is_touched_authorization (restricted k T) m a) (is_touched_authorization T m a) (λ r. r.account == x.number)
+          (λ r. k.authorizations r.number) T.authorizations (authorization_wider k T m a)),
+    )
 
 -- so the numbers of what is touched in the whole keep what is touched in the part
 keeps_wider : (k : Kept) (T : Tables) (m : ℕ) (a : Ask) → IsOrdered T → Keeps (kept_by T m a) (touched_rows (restricted k T) m a)

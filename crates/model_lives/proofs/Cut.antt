@@ -12,8 +12,8 @@ use Rattle.desk_model.specs.declared.call.OfficeAsk.TheVariants as office
 use Rattle.model_laws.specs.Ordered.{Ascends, IsOrdered}
 use Rattle.model_laws.proofs.Basics.{each, each_both, more_differs}
 use Rattle.model_lives.specs.IsPart.{IsPartFor, Keeps}
-use Rattle.model_lives.proofs.{Listed.KeepsListed, Enough.whole_part}
-use Rattle.model_lives.proofs.Lists.{each_member, filter_nothing, filter_same, filtered_each, same_number}
+use Rattle.model_lives.proofs.{Listed.KeepsListed, Enough.restricted_kept, Enough.whole_part}
+use Rattle.model_lives.proofs.Lists.{each_member, filter_nothing, filter_same, same_number}
 
 -- ---- a test on rows, and on their numbers
 
@@ -83,17 +83,7 @@ touched_listed T m a h =
     (each_both _ _ T.orders (numbered (λ (o : OrderRow). o.number) (is_touched_order T m a) 1 T.orders h.orders.0) (each_member T.orders))
 
 pub touched_kept : (T : Tables) (m : ℕ) (a : Ask) → IsOrdered T → Keeps (kept_by T m a) (touched_rows T m a)
-touched_kept T m a h =
-    record {
-      nonces = filtered_each _ (is_touched_nonce T m a) T.nonces
-          (each _ _ T.nonces (λ x e yes. e ∙ yes) (numbered (λ (x : Nonce). x.serial) (is_touched_nonce T m a) 1 T.nonces h.nonces.0));
-      accounts = filtered_each _ (is_touched_account T m a) T.accounts
-          (each _ _ T.accounts (λ x e yes. e ∙ yes) (numbered (λ (x : AccountRow). x.number) (is_touched_account T m a) 1 T.accounts h.accounts.0));
-      authorizations = filtered_each _ (is_touched_authorization T m a) T.authorizations
-          (each _ _ T.authorizations (λ r e yes. e ∙ yes) (same_authorizations T m a h));
-      orders = filtered_each _ (is_touched_order T m a) T.orders
-          (each _ _ T.orders (λ o e yes. e ∙ yes) (numbered (λ (o : OrderRow). o.number) (is_touched_order T m a) 1 T.orders h.orders.0));
-    }
+touched_kept T m a h = subst (Keeps (kept_by T m a)) (sym (touched_cut T m a h)) (restricted_kept (kept_by T m a) T)
 
 -- nothing is kept
 abbrev pub no_rows : Kept

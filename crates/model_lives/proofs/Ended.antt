@@ -1,17 +1,16 @@
 -- What has ended keeps its row: through an entry, through the passing of time, and so for ever.
-use Rattle.std.proofs.Common.{◌≡◌, ◌≤◌, ℕ, List, [], ◌∷◌, ◌++◌, map, Some, refl, sym, ap, ◌∙◌, subst, true, false, arith, max, rules}
-use Rattle.std.specs.Prelude.{IsTrue, ◌==◌}
+use Rattle.std.proofs.Common.{◌≡◌, ◌≤◌, ℕ, List, [], ◌∷◌, ◌++◌, map, Some, sym, ap, ◌∙◌, subst, true, false, arith, max, rules}
+use Rattle.std.specs.Prelude.{IsTrue, ◌==◌, find}
 use Rattle.desk_model.specs.Questions.{account_on, order_on, authorization_on, owner_on, challenge_of}
-use Rattle.desk_model.specs.Tables.{Tables, authorization_row, order_row, tables_at, picture}
-use Rattle.desk_model.specs.Effect.{authorizations_after, effect, has_row, moved_account, moved_authorization, moved_order, noted_account, noted_authorization}
-use Rattle.desk_model.specs.Effect.{noted_order, swept, touches_account, touches_authorization, touches_order}
+use Rattle.desk_model.specs.Effect.{authorizations_after, effect, has_row, moved_account, moved_authorization, moved_order, swept}
 use Rattle.desk_model.specs.Life.{is_final_account, is_final_challenge, is_final_order, challenge_in_rows, challenge_on, EndedRowsStay, EndedStays}
-use Rattle.desk_model.specs.{Entry.History, History.clock, Order.orders, Allowed.may_on, declared.entry.Entry.Entry, declared.entry.Dated.Dated}
-use Rattle.desk_model.specs.{declared.entry.Entry.TheVariants.Made as made, declared.rows.AccountRow.AccountRow, declared.rows.ChallengeRow.ChallengeRow}
-use Rattle.desk_model.specs.{declared.rows.AuthorizationRow.AuthorizationRow, declared.rows.OrderRow.OrderRow, Authorization.authorizations}
-use Rattle.desk_model.specs.{Authorization.is_over, Legal.EachFollows, Derived.restated_authorization, Derived.restated_order}
-use Rattle.model_laws.proofs.{AllowedFacts.allowed, OrderFacts.order_stated, Recorded.challenges_ordered, RowFacts.authorization_stated, Finds.found_moved}
-use Rattle.model_laws.proofs.{Basics.each_all, Basics.each-map, Basics.find-append, Basics.one_kept, MovedRows.has_row-moved, Step.step, Step.sweep}
+use Rattle.desk_model.specs.{Tables.Tables, Tables.tables_at, Tables.picture, Entry.History, History.clock, Order.orders, Allowed.may_on}
+use Rattle.desk_model.specs.{Tables.authorization_row, Tables.order_row, declared.entry.Entry.Entry, declared.entry.Dated.Dated, Legal.EachFollows}
+use Rattle.desk_model.specs.{declared.entry.Entry.TheVariants.Made as made, declared.rows.AuthorizationRow.AuthorizationRow, declared.rows.OrderRow.OrderRow}
+use Rattle.desk_model.specs.{declared.rows.AccountRow.AccountRow, declared.rows.ChallengeRow.ChallengeRow, Authorization.authorizations, Authorization.is_over}
+use Rattle.model_laws.proofs.Basics.{each_all, each-map, find-append}
+use Rattle.model_laws.proofs.{Chain.account_number, Chain.order_number, Local.moved_number, AllowedFacts.allowed, OrderFacts.order_stated}
+use Rattle.model_laws.proofs.{Recorded.challenges_ordered, RowFacts.authorization_stated, Finds.found_moved, MovedRows.has_row-moved, Step.step, Step.sweep}
 use Rattle.model_lives.proofs.EndedRows.{IsStated, account_stays, authorization_stays, challenge_stays}
 use Rattle.model_lives.proofs.{EndedOrders.order_stays, Extends.extends_earlier, Extends.histories_are_legal}
 
@@ -35,34 +34,31 @@ challenge_moved : (T : Tables) (e : Entry) (m n : ℕ) (a : AuthorizationRow) (r
     challenge_of n (moved_authorization e m T.accounts a) ≡ Some row
 challenge_moved T e m n a row may owner found ended = grind (arith, found_moved, challenge_stays)
 
+-- a row that its move leaves as it is is found among the moved rows and new ones
+row_stays : {X : Type 0} (number : X → ℕ) (move : X → X) → ((x : X) → number (move x) ≡ number x) → (xs new : List X) (n : ℕ) (row : X) →
+    find (λ x. number x == n) xs ≡ Some row → move row ≡ row → find (λ x. number x == n) (map move xs ++ new) ≡ Some row
+row_stays number move same xs new n row found stays =
+    find-append (λ x. number x == n) (map move xs) new row
+    (found_moved (λ x. number x == n) move (λ x. ap (λ k. k == n) (same x)) xs row found ∙ ap (λ x. Some x) stays)
+
 -- an entry that may be recorded leaves the rows that have ended
 entry_stays : (T : Tables) (e : Entry) (m : ℕ) → IsStated m T → may_on T e ≡ true → EndedRowsStay T (effect m T e)
 entry_stays T e m stated may = record { accounts = accounts_stay; orders = orders_stay; authorizations = authorizations_stay; challenges = challenges_stay }
   where
     accounts_stay : (n : ℕ) (row : AccountRow) → account_on T n ≡ Some row → IsTrue (is_final_account row.status) → account_on (effect m T e) n ≡ Some row
-    accounts_stay n row found ended =
-        find-append (λ a. a.number == n) (map (moved_account e m) T.accounts) _ row
-        (found_moved (λ a. a.number == n) (moved_account e m)
-        (λ a. ap (λ k. k == n) (one_kept (λ (a : AccountRow). a.number) (touches_account e a) (noted_account e m a) a refl)) T.accounts row found
-        ∙ ap (λ a. Some a) (account_stays T e m n row may found ended))
+    accounts_stay n row found ended = row_stays _ (moved_account e m) (account_number e m) T.accounts _ n row found (account_stays T e m n row may found ended)
 
     authorizations_stay : (n : ℕ) (row : AuthorizationRow) → authorization_on T n ≡ Some row → IsTrue (is_over row.status) →
         authorization_on (effect m T e) n ≡ Some row
     authorizations_stay n row found ended =
-        find-append (λ a. a.number == n) (map (moved_authorization e m T.accounts) T.authorizations) _ row
-        (found_moved (λ a. a.number == n) (moved_authorization e m T.accounts)
-        (λ a. ap (λ k. k == n) (one_kept (λ (a : AuthorizationRow). a.number) (touches_authorization e a)
-        (restated_authorization m (noted_authorization e m T.accounts a)) a refl)) T.authorizations row found
-        ∙ ap (λ a. Some a) (authorization_stays T e m n row stated may found ended))
+        row_stays _ (moved_authorization e m T.accounts) (moved_number e m T.accounts) T.authorizations _ n row found
+        (authorization_stays T e m n row stated may found ended)
 
     orders_stay : (n : ℕ) (row : OrderRow) → order_on T n ≡ Some row → IsTrue (is_final_order row.status) → order_on (effect m T e) n ≡ Some row
     orders_stay n row found ended =
         let later : List AuthorizationRow = authorizations_after T e m in
-        find-append (λ o. o.number == n) (map (moved_order e m T.authorizations later) T.orders) _ row
-        (found_moved (λ o. o.number == n) (moved_order e m T.authorizations later)
-        (λ o. ap (λ k. k == n) (one_kept (λ (o : OrderRow). o.number) (touches_order e T.authorizations o) (restated_order m later (noted_order e m o))
-        o refl)) T.orders row found
-        ∙ ap (λ o. Some o) (order_stays T e m n row later stated may found ended authorizations_stay))
+        row_stays _ (moved_order e m T.authorizations later) (order_number e m T.authorizations later) T.orders _ n row found
+        (order_stays T e m n row later stated may found ended authorizations_stay)
 
     challenges_stay : (n : ℕ) (row : ChallengeRow) → challenge_on T n ≡ Some row → IsTrue (is_final_challenge row.status) →
         challenge_on (effect m T e) n ≡ Some row

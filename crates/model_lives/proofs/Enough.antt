@@ -15,7 +15,8 @@ use Rattle.model_laws.proofs.{RowLists.ascends_filter, SweptParts.swept_closed}
 use Rattle.model_lives.specs.AnswersAs.{AnswersAs, CarriesOutAs, IssuesAs, PassesAs, SettlesAs}
 use Rattle.model_lives.specs.{IsPart.IsPartFor, IsPart.Keeps, Thinned.all_challenges}
 use Rattle.model_lives.proofs.Grown.{grown, grown_closed, grown_part, keeps_falling, keeps_named, keeps_restated, keeps_rows, keeps_touched}
-use Rattle.model_lives.proofs.{Listed.KeepsListed, Lists.filtered_each, Thin.whole_authorizations, Ready.IsAnswered, Ready.IsReady, Ready.swept_names}
+use Rattle.model_lives.proofs.{Listed.KeepsListed, Lists.each_passes, Lists.filtered_each, Thin.whole_authorizations, Ready.IsAnswered, Ready.IsReady}
+use Rattle.model_lives.proofs.Ready.{swept_names}
 use Rattle.model_lives.proofs.{Verdicts.nonce_same, Verdicts.office_same, Verdicts.signed_same, Walks.IsNoWork, Walks.office_answered, Walks.signed_answered}
 
 -- ---- rows by number
@@ -99,6 +100,16 @@ all_rows = record { nonces = λ n. true; accounts = λ n. true; authorizations =
 restricted_all : (k : Kept) (T : Tables) → Keeps k T → restricted k T ≡ T
 restricted_all k T h = grind (arith, filter_all)
 
+-- the rows of a part are kept
+pub restricted_kept : (k : Kept) (T : Tables) → Keeps k (restricted k T)
+restricted_kept k T =
+    record {
+      nonces = each_passes (λ n. k.nonces n.serial) T.nonces;
+      accounts = each_passes (λ a. k.accounts a.number) T.accounts;
+      authorizations = each_passes (λ a. k.authorizations a.number) T.authorizations;
+      orders = each_passes (λ o. k.orders o.number) T.orders;
+    }
+
 keeps_all : (T : Tables) → Keeps all_rows T
 keeps_all T = grind (arith, each_all)
 
@@ -143,12 +154,7 @@ answers_at k T m (ask.Office office.Directory) ordered listed h =
     subst (SettlesAs m office.Directory T) (grown_part k T) (directory_as (grown k T) T m (grown_closed k T ordered listed))
 answers_at k T m (ask.Office office.ChallengeWork) ordered listed h = work_as k T m office.ChallengeWork h
 answers_at k T m (ask.Office office.OrderWork) ordered listed h = work_as k T m office.OrderWork h
-answers_at k T m (ask.Office (office.Report n finding)) ordered listed h = rows_settle k T m (office.Report n finding) tt ordered listed h
-answers_at k T m (ask.Office (office.Certify n bytes)) ordered listed h = rows_settle k T m (office.Certify n bytes) tt ordered listed h
-answers_at k T m (ask.Office (office.FailOrder n problem)) ordered listed h = rows_settle k T m (office.FailOrder n problem) tt ordered listed h
-answers_at k T m (ask.Office (office.RevokeAuthz n)) ordered listed h = rows_settle k T m (office.RevokeAuthz n) tt ordered listed h
-answers_at k T m (ask.Office (office.RevokeAccount n)) ordered listed h = rows_settle k T m (office.RevokeAccount n) tt ordered listed h
-answers_at k T m (ask.Office (office.KeyOf n)) ordered listed h = rows_settle k T m (office.KeyOf n) tt ordered listed h
+answers_at k T m (ask.Office a) ordered listed h = rows_settle k T m a tt ordered listed h
 
 -- all rows are a part for each call
 pub whole_part : (T : Tables) (call : Call) → IsPartFor call T T

@@ -6,19 +6,19 @@ use Rattle.desk_model.specs.Touched.{is_named_account, is_named_order, is_touche
 use Rattle.desk_model.specs.{Asked.asks_name, Asked.asks_orders, Derived.numbers_of, Tables.Tables, Kept.EachOf, Kept.Kept, Kept.restricted}
 use Rattle.desk_model.specs.{declared.call.Ask.Ask, declared.call.OfficeAsk.OfficeAsk, declared.call.Signed.Signed, declared.objects.Nonce.Nonce}
 use Rattle.desk_model.specs.{declared.rows.AccountRow.AccountRow, declared.rows.AuthorizationRow.AuthorizationRow, declared.rows.OrderRow.OrderRow}
-use Rattle.desk_model.specs.declared.call.Ask.TheVariants as ask
 use Rattle.model_laws.specs.Ordered.{IsOrdered}
 use Rattle.model_laws.proofs.Basics.{each, each_all, each_both}
-use Rattle.model_lives.specs.AnswersAs.{IssuesAs, PassesAs, SettlesAs}
-use Rattle.model_lives.specs.MinimalPart.{minimal_rows, is_needed_account, is_needed_authorization, is_needed_order, is_moved_authorization, is_opened_order, IsStatedFor}
-use Rattle.model_lives.specs.MinimalPart.{is_restated_authorization, is_wanted_authorization, needs_holders, needs_listed, changes_statuses, target_needs_listed}
-use Rattle.model_lives.specs.IsPart.{Keeps}
-use Rattle.model_lives.proofs.Enough.{issues_as, passes_as, settles_as}
+use Rattle.model_lives.specs.MinimalPart.{minimal_rows, is_needed_account, is_needed_authorization, is_needed_order, is_moved_authorization, is_opened_order}
+use Rattle.model_lives.specs.MinimalPart.{IsStatedFor, is_restated_authorization, is_wanted_authorization, needs_holders, needs_listed, changes_statuses}
+use Rattle.model_lives.specs.MinimalPart.{target_needs_listed}
+use Rattle.model_lives.specs.{AnswersAs.IssuesAs, AnswersAs.PassesAs, AnswersAs.SettlesAs, IsPart.Keeps}
+use Rattle.model_lives.proofs.Enough.{issues_as, passes_as, restricted_kept, settles_as}
 use Rattle.model_lives.proofs.Grown.{KeepsNamed, KeepsRestated, KeepsRows, answers_challenge, grown, grown_closed, grown_part, kept_number, keeps_falling}
 use Rattle.model_lives.proofs.Grown.{keeps_named, target_answers}
-use Rattle.model_lives.proofs.Lists.{any_wider, each_filtered, each_member, filter_nothing, filter_same, filtered_each, same_number}
+use Rattle.model_lives.proofs.Lists.{any_wider, each_filtered, each_member, filter_nothing, filter_same, same_number}
 use Rattle.model_lives.proofs.WithoutAccounts.{IsOfAuthorization, settles_without_accounts, without_accounts}
 use Rattle.model_lives.proofs.{Answering.passes_answer, Listed.KeepsListed, Ready.IsReady, Unlisted.passes_open, Walks.IsNoWork, Cut.at_number, Cut.numbered}
+use Rattle.desk_model.specs.declared.call.Ask.TheVariants as ask
 
 -- ---- by their numbers
 
@@ -55,17 +55,7 @@ minimal_cut T m a h =
     }
 
 pub minimal_hold : (T : Tables) (m : ℕ) (a : Ask) → IsOrdered T → Keeps (minimal_kept T m a) (minimal_rows T m a)
-minimal_hold T m a h =
-    record {
-      nonces = filtered_each _ (is_touched_nonce T m a) T.nonces
-          (each _ _ T.nonces (λ x e so. e ∙ so) (numbered (λ (x : Nonce). x.serial) (is_touched_nonce T m a) 1 T.nonces h.nonces.0));
-      accounts = filtered_each _ (is_needed_account T a) T.accounts
-          (each _ _ T.accounts (λ x e so. e ∙ so) (numbered (λ (x : AccountRow). x.number) (is_needed_account T a) 1 T.accounts h.accounts.0));
-      authorizations = filtered_each _ (is_needed_authorization T m a) T.authorizations
-          (each _ _ T.authorizations (λ r e so. e ∙ so) (minimal_authorizations T m a h));
-      orders = filtered_each _ (is_needed_order T m a) T.orders
-          (each _ _ T.orders (λ o e so. e ∙ so) (numbered (λ (o : OrderRow). o.number) (is_needed_order T m a) 1 T.orders h.orders.0));
-    }
+minimal_hold T m a h = subst (Keeps (minimal_kept T m a)) (sym (minimal_cut T m a h)) (restricted_kept (minimal_kept T m a) T)
 
 -- and each order is opened
 all_opened : (T : Tables) (m : ℕ) (a : Ask) (o : OrderRow) → needs_listed a ≡ true → is_needed_order T m a o ≡ true → is_opened_order T m a o ≡ true

@@ -4,7 +4,7 @@ use Rattle.std.proofs.{lemmas.List.Folds.list_any-append, Math.Bool.or-false}
 use Rattle.std.specs.{Prelude.◌==◌, Prelude.◌&&◌, Prelude.◌||◌, Prelude.find, List.list_any, List.flat_map}
 use Rattle.desk_model.specs.{Change.put, Kept.EachOf}
 use Rattle.model_laws.specs.{Ordered.Ascends, Placing.puts}
-use Rattle.model_laws.proofs.Basics.{any_or, each, each-append, list_any-same}
+use Rattle.model_laws.proofs.Basics.{any_or, each, each_all, each-append, list_any-same}
 use Rattle.model_laws.proofs.RowLists.{Above, ascends_above, ascends_found, put_first}
 use Rattle.model_lives.proofs.{Cut.at_number, Cut.numbered, Lists.filter_nothing, Lists.filter_same, Lists.filtered_each}
 
@@ -18,8 +18,8 @@ pub any_filter : {X : Type 0} (test p : X → Bool) (xs : List X) → list_any p
 any_filter test p [] = refl
 any_filter test p (x ∷ xs) = grind (arith, (any_filter test p xs))
 
-pub found_filter : {X : Type 0} (number : X → ℕ) (test : X → Bool) (n : ℕ) (xs : List X) → Ascends number n xs → IsFound number test xs (filter test xs)
-found_filter number test n xs h = grind (arith, filtered_each, each, ascends_found, any_filter)
+pub found_filter : {X : Type 0} {number : X → ℕ} {test : X → Bool} {xs : List X} → Ascends number 1 xs → IsFound number test xs (filter test xs)
+found_filter h = grind (arith, filtered_each, each, ascends_found, any_filter)
 
 any_false : {X : Type 0} (xs : List X) → false ≡ list_any (λ x. false) xs
 any_false [] = refl
@@ -29,9 +29,9 @@ pub found_none : {X : Type 0} (number : X → ℕ) (xs : List X) → IsFound num
 found_none number xs = record { from = tt; tests = λ p. any_false xs }
 
 -- rows of two look-ups
-pub found_both : {X : Type 0} (number : X → ℕ) (p q : X → Bool) (xs ys zs : List X) → IsFound number p xs ys → IsFound number q xs zs →
+pub found_both : {X : Type 0} {number : X → ℕ} {p q : X → Bool} {xs ys zs : List X} → IsFound number p xs ys → IsFound number q xs zs →
     IsFound number (λ x. p x || q x) xs (ys ++ zs)
-found_both number p q xs ys zs h k =
+found_both {number} {p} {q} {xs} {ys} {zs} h k =
     record {
       from = each-append _ ys zs h.from k.from;
       tests = λ r.
@@ -45,30 +45,39 @@ found_both number p q xs ys zs h k =
     by a b c = grind arith
 
 -- rows of a look-up for each of some items
-pub found_by : {X K : Type 0} (number : X → ℕ) (test : K → X → Bool) (look : K → List X) (xs : List X) → ((k : K) → IsFound number (test k) xs (look k)) →
+pub found_by : {X K : Type 0} {number : X → ℕ} {test : K → X → Bool} {look : K → List X} {xs : List X} → ((k : K) → IsFound number (test k) xs (look k)) →
     (ks : List K) → IsFound number (λ x. list_any (λ k. test k x) ks) xs (flat_map look ks)
-found_by number test look xs h [] = found_none number xs
-found_by number test look xs h (k ∷ ks) = found_both number (test k)
-    (λ x. list_any (λ j. test j x) ks) xs (look k) (flat_map look ks) (h k) (found_by number test look xs h ks)
+found_by {number = number} {xs = xs} h [] = found_none number xs
+found_by h (k ∷ ks) = found_both (h k) (found_by h ks)
 
 -- by a test that is the same on each row
-pub found_same : {X : Type 0} (number : X → ℕ) (p q : X → Bool) (xs ys : List X) → EachOf (λ x. p x ≡ q x) xs → IsFound number p xs ys → IsFound number q xs ys
-found_same number p q xs ys same h = record { from = h.from; tests = λ r. h.tests r ∙ any_each xs same r }
+pub found_same : {X : Type 0} {number : X → ℕ} {p q : X → Bool} {xs ys : List X} → IsFound number p xs ys → EachOf (λ x. p x ≡ q x) xs → IsFound number q xs ys
+found_same {p = p} {q = q} {xs = xs} h same = record { from = h.from; tests = λ r. h.tests r ∙ any_each xs same r }
   where
     any_each : (zs : List _) → EachOf (λ x. p x ≡ q x) zs → (r : _ → Bool) → list_any (λ x. p x && r x) zs ≡ list_any (λ x. q x && r x) zs
     any_each [] e r = refl
     any_each (z ∷ zs) e r = λ i. (e.0 i && r z) || any_each zs e.1 r i
 
+-- by a test that is the same on all there may be
+pub found_alike : {X : Type 0} {number : X → ℕ} {p q : X → Bool} {xs ys : List X} → IsFound number p xs ys → ((x : X) → p x ≡ q x) → IsFound number q xs ys
+found_alike {xs = xs} h same = found_same h (each_all _ xs same)
+
+-- rows that lie by one of those found
+pub found_beside : {X Y : Type 0} {number : X → ℕ} {mark : Y → ℕ} {beside : Y → X → Bool} {test : Y → Bool} {look : Y → List X} {xs : List X}
+    {ys rows : List Y} → ((y : Y) → IsFound number (beside y) xs (look y)) → IsFound mark test ys rows
+    → IsFound number (λ x. list_any (λ y. test y && beside y x) ys) xs (flat_map look rows)
+found_beside {beside = beside} {rows = rows} looked is = found_alike (found_by looked rows) (λ x. is.tests (λ y. beside y x))
+
 -- those of them that pass one more test
-pub found_filtered : {X : Type 0} (number : X → ℕ) (p test : X → Bool) (xs ys : List X) → IsFound number test xs ys →
+pub found_filtered : {X : Type 0} {number : X → ℕ} (p : X → Bool) {test : X → Bool} {xs ys : List X} → IsFound number test xs ys →
     IsFound number (λ x. p x && test x) xs (filter p ys)
-found_filtered number p test xs ys h = grind (arith, filtered_each, each, any_filter, list_any-same)
+found_filtered p h = grind (arith, filtered_each, each, any_filter, list_any-same)
 
 -- where a condition holds
-pub found_if : {X : Type 0} (number : X → ℕ) (b : Bool) (test : X → Bool) (xs ys : List X) → IsFound number test xs ys →
+pub found_if : {X : Type 0} {number : X → ℕ} (b : Bool) {test : X → Bool} {xs ys : List X} → IsFound number test xs ys →
     IsFound number (λ x. b && test x) xs (cond b ys [])
-found_if number true test xs ys h = h
-found_if number false test xs ys h = found_none number xs
+found_if true h = h
+found_if {number = number} false {xs = xs} h = found_none number xs
 
 -- ---- the table that they make
 
@@ -114,6 +123,6 @@ found_table number test n xs found h is =
     swap zs x = list_any-same _ _ zs (λ y. turn (test y) (number y == number x))
 
 -- each row once is found as well
-pub found_once : {X : Type 0} (number : X → ℕ) (test : X → Bool) (n : ℕ) (xs found : List X) → Ascends number n xs → IsFound number test xs found →
+pub found_once : {X : Type 0} {number : X → ℕ} {test : X → Bool} {xs found : List X} → Ascends number 1 xs → IsFound number test xs found →
     IsFound number test xs (puts number found [])
-found_once number test n xs found h is = rw (found_table number test n xs found h is) (found_filter number test n xs h)
+found_once {number = number} {test = test} {xs = xs} {found = found} h is = rw (found_table number test 1 xs found h is) (found_filter h)

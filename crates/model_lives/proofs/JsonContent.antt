@@ -1,5 +1,5 @@
 -- What a string of a UTF-8 text stands for is UTF-8 (RFC 8259, 7).
-use Rattle.std.proofs.Common.{◌≡◌, ℕ, zero, suc, ◌+◌, ◌*◌, ◌<◌, ◌≤◌, List, [], ◌∷◌, ◌++◌, length, Option, Some, None, IsUtf8, IfSome, refl, sym, subst, Bool}
+use Rattle.std.proofs.Common.{◌≡◌, ℕ, zero, suc, ◌<◌, ◌≤◌, List, [], ◌∷◌, ◌++◌, length, Option, IsUtf8, IfSome, refl, sym, subst, Bool}
 use Rattle.std.proofs.Common.{true, false, cond, arith, append-nil, append_assoc, encode_utf8}
 use Rattle.std.proofs.lemmas.{Bool.Decides.nat_tests, Bool.and_parts, Bool.eqb-true, Bool.ltb-true, Bool.lt-ltb, Str.IsUtf8-append, Str.IsUtf8-encode}
 use Rattle.std.specs.{Prelude.◌==◌, Prelude.◌&&◌, Prelude.nat_lt, Prelude.option_and_then, Char.IsScalar, Char.digit_value, Char.is_digit}
@@ -10,6 +10,17 @@ use Rattle.json.specs.Text.{prepend}
 -- what follows an ASCII byte is a text
 after_ascii : (b : ℕ) (rest : List ℕ) → IsUtf8 (b ∷ rest) → b < 128 → IsUtf8 rest
 after_ascii b rest whole ascii = (parted [] b rest whole ascii).after
+
+-- ---- options
+
+-- what holds of either of two options, by a test
+some_by : {A : Type 0} (P : A → Type 0) (b : Bool) (o p : Option A) → (b ≡ true → IfSome o P) → (b ≡ false → IfSome p P) → IfSome (cond b o p) P
+some_by P b o p h k = grind arith
+
+-- and of a value under a function that may fail
+pub then_holds : {A B : Type 0} (P : A → Type 0) (Q : B → Type 0) (f : A → Option B) → ((a : A) → P a → IfSome (f a) Q) → (o : Option A) → IfSome o P →
+    IfSome (option_and_then f o) Q
+then_holds P Q f h o k = grind arith
 
 -- ---- escapes
 
@@ -50,20 +61,16 @@ pub record IsUnit (a b c d u : ℕ) : Type 0 where
 -- what four bytes spell, if they spell something
 unit_of : (a b c d : ℕ) → IfSome (code_unit a b c d) (IsUnit a b c d)
 unfolding code_unit
-unit_of a b c d = by (is_digit a 16 && is_digit b 16 && is_digit c 16 && is_digit d 16) refl
-  where
-    by : (t : Bool) → (is_digit a 16 && is_digit b 16 && is_digit c 16 && is_digit d 16) ≡ t →
-        IfSome (cond t (Some (digit_value a * 4096 + digit_value b * 256 + digit_value c * 16 + digit_value d)) None) (IsUnit a b c d)
-    by false h = tt
-    by true h =
-        let p = and_parts _ (is_digit d 16) h in
-        let q = and_parts _ (is_digit c 16) p.0 in
-        let r = and_parts (is_digit a 16) (is_digit b 16) q.0 in
-        let one : IsHex a = digit_of a r.0 in
-        let two : IsHex b = digit_of b r.1 in
-        let three : IsHex c = digit_of c q.1 in
-        let four : IsHex d = digit_of d p.1 in
-        record { first = one.ascii; second = two.ascii; third = three.ascii; fourth = four.ascii; small = omega arith }
+unit_of a b c d =
+    some_by (IsUnit a b c d) (is_digit a 16 && is_digit b 16 && is_digit c 16 && is_digit d 16) _ _ (λ h.
+    let p = and_parts _ (is_digit d 16) h in
+    let q = and_parts _ (is_digit c 16) p.0 in
+    let r = and_parts (is_digit a 16) (is_digit b 16) q.0 in
+    let one : IsHex a = digit_of a r.0 in
+    let two : IsHex b = digit_of b r.1 in
+    let three : IsHex c = digit_of c q.1 in
+    let four : IsHex d = digit_of d p.1 in
+    record { first = one.ascii; second = two.ascii; third = three.ascii; fourth = four.ascii; small = omega arith }) (λ no. tt)
 
 -- what stands behind four hex digits is a text
 after_unit : (a b c d u : ℕ) (rest : List ℕ) → IsUnit a b c d u → IsUtf8 (a ∷ b ∷ c ∷ d ∷ rest) → IsUtf8 rest
@@ -92,70 +99,41 @@ character_then c o scalar h = prepended [] (encode_utf8 c) o (behind (encode_utf
 low_half : (n : ℕ) → GivesTexts n → (h : ℕ) → is_high_surrogate h ≡ true → (rest : List ℕ) → length rest ≤ n → IsUtf8 rest →
     IsTextBehind [] (content (after_high h) rest)
 unfolding content
-low_half n more h high (s ∷ u ∷ a ∷ b ∷ c ∷ d ∷ rest) fits text = by ((s == 92) && (u == 117)) refl
-  where
-    pair : (l : ℕ) → IsUnit a b c d l → IsUtf8 (a ∷ b ∷ c ∷ d ∷ rest) → (t : Bool) → is_low_surrogate l ≡ t →
-        IsTextBehind [] (cond t (prepend (encode_utf8 (surrogate_pair h l)) (content plain rest)) None)
-    pair l unit behind_mark false low = tt
-    pair l unit behind_mark true low =
-        character_then (surrogate_pair h l) (content plain rest) (pair_scalar h l high low)
-        (more rest (omega arith) (after_unit a b c d l rest unit behind_mark))
-
-    spelled : (o : Option ℕ) → IfSome o (IsUnit a b c d) → IsUtf8 (a ∷ b ∷ c ∷ d ∷ rest) →
-        IsTextBehind []
-        (option_and_then (λ l. cond (is_low_surrogate l) (prepend (encode_utf8 (surrogate_pair h l)) (content plain rest)) None) o)
-    spelled None unit behind_mark = tt
-    spelled (Some l) unit behind_mark = pair l unit behind_mark (is_low_surrogate l) refl
-
-    by : (t : Bool) → ((s == 92) && (u == 117)) ≡ t →
-        IsTextBehind []
-        (cond t (option_and_then (λ l. cond (is_low_surrogate l) (prepend (encode_utf8 (surrogate_pair h l)) (content plain rest)) None)
-        (code_unit a b c d)) None)
-    by false p = tt
-    by true p =
-        let parts = and_parts (s == 92) (u == 117) p in
-        let mark : s ≡ 92 = eqb-true s 92 parts.0 in
-        let letter : u ≡ 117 = eqb-true u 117 parts.1 in
-        spelled (code_unit a b c d) (unit_of a b c d)
-        (after_ascii u _ (after_ascii s _ text (omega arith)) (omega arith))
+low_half n more h high (s ∷ u ∷ a ∷ b ∷ c ∷ d ∷ rest) fits text =
+    some_by IsUtf8 ((s == 92) && (u == 117)) _ _ (λ p.
+    let parts = and_parts (s == 92) (u == 117) p in
+    let mark : s ≡ 92 = eqb-true s 92 parts.0 in
+    let letter : u ≡ 117 = eqb-true u 117 parts.1 in
+    let digits : IsUtf8 (a ∷ b ∷ c ∷ d ∷ rest) = after_ascii u _ (after_ascii s _ text (omega arith)) (omega arith) in
+    then_holds (IsUnit a b c d) IsUtf8 _ (λ l unit.
+    some_by IsUtf8 (is_low_surrogate l) _ _ (λ low.
+    character_then (surrogate_pair h l) (content plain rest) (pair_scalar h l high low) (more rest (omega arith) (after_unit a b c d l rest unit digits)))
+    (λ no. tt)) (code_unit a b c d) (unit_of a b c d)) (λ no. tt)
 low_half n more h high _ fits text = tt
 
 -- what stands behind `\u`
 unit_then : (n : ℕ) → GivesTexts n → (rest : List ℕ) → length rest ≤ n → IsUtf8 rest → IsTextBehind [] (content after_u rest)
 unfolding content
-unit_then n more (a ∷ b ∷ c ∷ d ∷ rest) fits text = spelled (code_unit a b c d) (unit_of a b c d)
-  where
-    by : (u : ℕ) → IsUnit a b c d u → (high : Bool) → is_high_surrogate u ≡ high → (low : Bool) → is_low_surrogate u ≡ low →
-        IsTextBehind [] (cond high (content (after_high u) rest) (cond low None (prepend (encode_utf8 u) (content plain rest))))
-    by u unit true p low q = low_half n more u p rest (omega arith) (after_unit a b c d u rest unit text)
-    by u unit false p true q = tt
-    by u unit false p false q =
-        character_then u (content plain rest) (unit_scalar u unit.small p q) (more rest (omega arith) (after_unit a b c d u rest unit text))
-
-    spelled : (o : Option ℕ) → IfSome o (IsUnit a b c d) →
-        IsTextBehind []
-        (option_and_then (λ u. cond (is_high_surrogate u) (content (after_high u) rest)
-        (cond (is_low_surrogate u) None (prepend (encode_utf8 u) (content plain rest)))) o)
-    spelled None unit = tt
-    spelled (Some u) unit = by u unit (is_high_surrogate u) refl (is_low_surrogate u) refl
+unit_then n more (a ∷ b ∷ c ∷ d ∷ rest) fits text =
+    then_holds (IsUnit a b c d) IsUtf8 _ (λ u unit.
+    let after : IsUtf8 rest = after_unit a b c d u rest unit text in
+    some_by IsUtf8 (is_high_surrogate u) _ _ (λ high. low_half n more u high rest (omega arith) after) (λ high.
+    some_by IsUtf8 (is_low_surrogate u) _ _ (λ low. tt) (λ low.
+    character_then u (content plain rest) (unit_scalar u unit.small high low) (more rest (omega arith) after))))
+    (code_unit a b c d) (unit_of a b c d)
 unit_then n more _ fits text = tt
 
 -- what stands behind a backslash
 escape_then : (n : ℕ) → GivesTexts n → (rest : List ℕ) → length rest ≤ n → IsUtf8 rest → IsTextBehind [] (content after_backslash rest)
 unfolding content
 escape_then n more [] fits text = tt
-escape_then n more (x ∷ rest) fits text = by (x == 117) refl
-  where
-    short : (o : Option ℕ) → IfSome o (λ c. (x < 128) × (c < 128)) → IsTextBehind [] (option_and_then (λ c. prepend (c ∷ []) (content plain rest)) o)
-    short None h = tt
-    short (Some c) h =
-        prepended [] (c ∷ []) (content plain rest)
-        (behind (c ∷ []) (content plain rest) (ascii_text (c ∷ []) (rw (lt-ltb c 128 h.1) refl)) (more rest (omega arith) (after_ascii x rest text h.0)))
-
-    by : (t : Bool) → (x == 117) ≡ t →
-        IsTextBehind [] (cond t (content after_u rest) (option_and_then (λ c. prepend (c ∷ []) (content plain rest)) (short_escape x)))
-    by true p = let letter : x ≡ 117 = eqb-true x 117 p in unit_then n more rest (omega arith) (after_ascii x rest text (omega arith))
-    by false p = short (short_escape x) (short_ascii x)
+escape_then n more (x ∷ rest) fits text =
+    some_by IsUtf8 (x == 117) _ _ (λ p.
+    let letter : x ≡ 117 = eqb-true x 117 p in unit_then n more rest (omega arith) (after_ascii x rest text (omega arith))) (λ no.
+    then_holds (λ c. (x < 128) × (c < 128)) IsUtf8 _ (λ c h.
+    prepended [] (c ∷ []) (content plain rest)
+    (behind (c ∷ []) (content plain rest) (ascii_text (c ∷ []) (rw (lt-ltb c 128 h.1) refl)) (more rest (omega arith) (after_ascii x rest text h.0))))
+    (short_escape x) (short_ascii x))
 
 -- up to the quotation mark, behind some bytes
 content_text : (n : ℕ) (front rest : List ℕ) → length rest ≤ n → IsUtf8 (front ++ rest) → IsTextBehind front (content plain rest)
@@ -163,20 +141,16 @@ unfolding content
 content_text n front [] fits text = tt
 content_text zero front (x ∷ rest) fits text = absurd (omega arith)
 content_text (suc n) front (x ∷ rest) fits text =
-    by (λ before after small whole. content_text n before after small whole) (x == 34) refl (x == 92) refl (nat_lt x 32)
-  where
-    by : ((before after : List ℕ) → length after ≤ n → IsUtf8 (before ++ after) → IsTextBehind before (content plain after)) → (q : Bool) → (x == 34) ≡ q →
-        (b : Bool) → (x == 92) ≡ b → (c : Bool) →
-        IsTextBehind front (cond q (Some []) (cond b (content after_backslash rest) (cond c None (prepend (x ∷ []) (content plain rest)))))
-    by more true p b q c = let mark : x ≡ 34 = eqb-true x 34 p in subst IsUtf8 (sym (append-nil front)) (parted front x rest text (omega arith)).before
-    by more false p true q c =
-        let mark : x ≡ 92 = eqb-true x 92 q in
-        let parts = parted front x rest text (omega arith) in
-        behind front (content after_backslash rest) parts.before (escape_then n (more []) rest (omega arith) parts.after)
-    by more false p false q true = tt
-    by more false p false q false =
-        prepended front (x ∷ []) (content plain rest)
-        (more (front ++ x ∷ []) rest (omega arith) (subst IsUtf8 (sym (append_assoc front (x ∷ []) rest)) text))
+    some_by (λ s. IsUtf8 (front ++ s)) (x == 34) _ _ (λ p.
+    let mark : x ≡ 34 = eqb-true x 34 p in subst IsUtf8 (sym (append-nil front)) (parted front x rest text (omega arith)).before) (λ p.
+    some_by (λ s. IsUtf8 (front ++ s)) (x == 92) _ _ (λ q.
+    let mark : x ≡ 92 = eqb-true x 92 q in
+    let parts = parted front x rest text (omega arith) in
+    behind front (content after_backslash rest) parts.before
+    (escape_then n (λ after small whole. content_text n [] after small whole) rest (omega arith) parts.after)) (λ q.
+    some_by (λ s. IsUtf8 (front ++ s)) (nat_lt x 32) _ _ (λ control. tt) (λ shown.
+    prepended front (x ∷ []) (content plain rest)
+    (content_text n (front ++ x ∷ []) rest (omega arith) (subst IsUtf8 (sym (append_assoc front (x ∷ []) rest)) text)))))
 
 -- the content of a string that a text goes on with is a text
 pub string_text : (rest : List ℕ) → IsUtf8 rest → IfSome (content plain rest) IsUtf8

@@ -1,12 +1,12 @@
 -- The strings of a value that is read in a UTF-8 text are UTF-8.
 use Rattle.std.proofs.Common.{ℕ, zero, suc, List, length, Option, Some, None, option_map, option_and_then, IsUtf8, IfSome, arith}
 use Rattle.desk_model.specs.Kept.{EachOf}
-use Rattle.json.specs.{Token.Token, Lex.tokens}
 use Rattle.json.specs.Json.{Parse, parse_map, after_end_array, read_key, items_step, members_step, value_with}
-use Rattle.json.specs.Json as json
+use Rattle.json.specs.{Token.Token, Lex.tokens}
 use Rattle.serde_json.specs.Data.{Data, number, string, array, object, Items, no_items, item, Members, no_members, member, put}
 use Rattle.serde_json.specs.Read.{max_depth, number_of, of_items, of_json, of_members, read}
-use Rattle.model_lives.proofs.JsonTokens.{IsTextToken, tokens_texts}
+use Rattle.model_lives.proofs.{JsonTokens.IsTextToken, JsonTokens.tokens_texts, JsonContent.then_holds}
+use Rattle.json.specs.Json as json
 
 -- ---- options
 
@@ -14,11 +14,6 @@ use Rattle.model_lives.proofs.JsonTokens.{IsTextToken, tokens_texts}
 pub map_holds : {A B : Type 0} (P : A → Type 0) (Q : B → Type 0) (f : A → B) → ((a : A) → P a → Q (f a)) → (o : Option A) → IfSome o P →
     IfSome (option_map f o) Q
 map_holds P Q f h o k = grind arith
-
--- and under one that may fail
-pub then_holds : {A B : Type 0} (P : A → Type 0) (Q : B → Type 0) (f : A → Option B) → ((a : A) → P a → IfSome (f a) Q) → (o : Option A) → IfSome o P →
-    IfSome (option_and_then f o) Q
-then_holds P Q f h o k = grind arith
 
 -- nothing is asked of a value
 any : {A : Type 0} (o : Option A) → IfSome o (λ a. Unit {0})

@@ -14,6 +14,7 @@ pub mod Grown
 pub mod JsonContent
 pub mod JsonTexts
 pub mod JsonTokens
+pub mod Judged
 pub mod Listed
 pub mod ListedAlone
 pub mod Lists
@@ -29,7 +30,6 @@ pub mod Replies
 pub mod Reusing
 pub mod Sound
 pub mod SoundCalls
-pub mod Steps
 pub mod Thin
 pub mod WithoutAccounts
 pub mod Unlisted

@@ -1,34 +1,32 @@
 -- The list of an account's orders is answered from summaries of orders, but for those that fall.
-use Rattle.std.proofs.Common.{◌≡◌, ℕ, List, [], ◌∷◌, ◌++◌, map, filter, Option, Some, None, refl, sym, ap, subst, ◌∙◌, true, false, Bool, cond, arith}
+use Rattle.std.proofs.Common.{◌≡◌, ℕ, List, [], ◌∷◌, ◌++◌, map, filter, refl, sym, ap, subst, ◌∙◌, true, false, Bool, cond, arith}
 use Rattle.std.proofs.lemmas.Bool.{or_left, or_right}
-use Rattle.std.specs.Prelude.{◌==◌, codes}
+use Rattle.std.specs.Prelude.{codes}
 use Rattle.serde_json.specs.Data.{string}
 use Rattle.desk_model.specs.Effect.{effects, falls, is_overdue, swept, swept_authorization}
-use Rattle.desk_model.specs.{Account.is_valid as is_valid_account, Decide.entries_of, Tables.Tables, Touched.is_named_order, Asked.asks_orders}
-use Rattle.desk_model.specs.{Asked.target_orders, Change.all_changes, Change.nonces_gone, Change.recorded_changes, Change.sweep_changes, Document.is_listed}
-use Rattle.desk_model.specs.{Document.order_url, Json.document, Json.list, Kept.EachOf, Kept.Kept, Kept.restricted, Rules.key_verdict, Rules.nothing}
-use Rattle.desk_model.specs.{Rules.open_nonce, Rules.signed_verdict, Shown.ok, Shown.reply_of}
-use Rattle.desk_model.specs.declared.{call.Ask.Ask, call.Signed.Signed, call.Target.Target, rows.AccountRow.AccountRow, rows.AuthorizationRow.AuthorizationRow}
-use Rattle.desk_model.specs.declared.{rows.OrderRow.OrderRow, verdict.Verdict.Verdict, entry.Entry.TheVariants.Issued as issued}
-use Rattle.desk_model.specs.declared.{entry.Entry.TheVariants.Spent as spent, rows.Change.TheVariants.PutAuthorization, rows.Change.TheVariants.PutMeta}
-use Rattle.desk_model.specs.declared.{rows.Change.TheVariants.PutOrder, rows.Change.TheVariants.RemoveNonce, verdict.Verdict.TheVariants.Refused as refused}
-use Rattle.desk_model.specs.declared.{verdict.Verdict.TheVariants.KeyTaken as key_taken, verdict.Verdict.TheVariants.Answers as answers}
-use Rattle.desk_model.specs.declared.call.Ask.TheVariants as ask
-use Rattle.desk_model.specs.declared.call.Target.TheVariants as to
-use Rattle.desk_model.specs.declared.refusal.Refusal.TheVariants as refusal
-use Rattle.desk_model.specs.declared.status.AuthzStatus.TheVariants as authz
-use Rattle.desk_model.specs.declared.status.OrderStatus.TheVariants as order
-use Rattle.desk_model.specs.declared.verdict.Listing.TheVariants as listing
-use Rattle.desk_model.specs.declared.verdict.Shows.TheVariants as show
+use Rattle.desk_model.specs.Change.{all_changes, nonces_gone, recorded_changes, sweep_changes}
+use Rattle.desk_model.specs.declared.entry.Entry.TheVariants.{Issued as issued, Spent as spent}
+use Rattle.desk_model.specs.declared.rows.Change.TheVariants.{PutAuthorization, PutMeta, PutOrder, RemoveNonce}
+use Rattle.desk_model.specs.declared.verdict.Verdict.TheVariants.{Refused as refused, KeyTaken as key_taken, Answers as answers}
+use Rattle.desk_model.specs.{Decide.entries_of, Tables.Tables, Touched.is_named_order, Asked.asks_orders, Asked.target_orders, Document.is_listed}
+use Rattle.desk_model.specs.{Document.order_url, Json.document, Json.list, Kept.EachOf, Kept.Kept, Kept.restricted, Rules.open_nonce, Rules.signed_verdict}
+use Rattle.desk_model.specs.{Shown.ok, Shown.reply_of, declared.call.Ask.Ask, declared.call.Signed.Signed, declared.call.Target.Target}
+use Rattle.desk_model.specs.{declared.rows.AuthorizationRow.AuthorizationRow, declared.rows.OrderRow.OrderRow, declared.verdict.Verdict.Verdict}
 use Rattle.model_laws.specs.Ordered.{IsOrdered}
 use Rattle.model_laws.proofs.Basics.{each, each_both}
 use Rattle.model_lives.specs.AnswersAs.{CarriesOutAs, PassesAs}
 use Rattle.model_lives.specs.MinimalPart.{is_needed_order, is_opened_order, is_whole_order, needs_holders, changes_statuses}
 use Rattle.model_lives.specs.Thinned.{Thinning, all_challenges, thin, thinned, whole_if, with_orders}
-use Rattle.model_lives.proofs.{Between.bare, Steps.check_keeps, Cut.at_number, Cut.numbered, Fewer.minimal_hold, Fewer.minimal_holders, Fewer.minimal_kept}
-use Rattle.model_lives.proofs.{Fewer.minimal_restated, Grown.KeepsRestated, Grown.grown, Grown.grown_part, Grown.keeps_falling, Lists.filtered_each}
-use Rattle.model_lives.proofs.{Thin.KeepsFallingWhole, Thin.carries_thin, Thin.swept_thin, Thin.whole_authorizations, Unlisted.falls_open, Unlisted.issued_bare}
-use Rattle.model_lives.proofs.{Unlisted.nonces_bare}
+use Rattle.model_lives.proofs.{Judged.OfAccount, Judged.OfRequest, Judged.request_judged, Between.bare, Cut.at_number, Cut.numbered, Fewer.minimal_hold}
+use Rattle.model_lives.proofs.{Fewer.minimal_holders, Fewer.minimal_kept, Fewer.minimal_restated, Unlisted.nonces_bare, Unlisted.falls_open}
+use Rattle.model_lives.proofs.{Unlisted.issued_bare, Grown.KeepsRestated, Grown.grown, Grown.grown_part, Grown.keeps_falling, Lists.filtered_each}
+use Rattle.model_lives.proofs.{Thin.KeepsFallingWhole, Thin.carries_thin, Thin.swept_thin, Thin.whole_authorizations}
+use Rattle.desk_model.specs.declared.call.Ask.TheVariants as ask
+use Rattle.desk_model.specs.declared.call.Target.TheVariants as to
+use Rattle.desk_model.specs.declared.status.AuthzStatus.TheVariants as authz
+use Rattle.desk_model.specs.declared.status.OrderStatus.TheVariants as order
+use Rattle.desk_model.specs.declared.verdict.Listing.TheVariants as listing
+use Rattle.desk_model.specs.declared.verdict.Shows.TheVariants as show
 
 -- ---- what it records
 
@@ -109,16 +107,16 @@ IsList (key_taken account) = Unit {0}
 IsList (answers (show.List (listing.Orders n))) = Unit {0}
 IsList _ = ⊥
 
--- by the key's account, if there is one
-key_lists : (S : Tables) (r key p : List ℕ) (j : ℕ) (o : Option AccountRow) → IsList (key_verdict S r key p (to.Orders j) o)
-key_lists S r key p j None = tt
-key_lists S r key p j (Some x) =
-    check_keeps IsList (is_valid_account x.status) refusal.Unauthorized _ tt (λ valid.
-    check_keeps IsList (j == x.number) refusal.NotFound _ tt (λ here.
-    check_keeps IsList (nothing p) refusal.Malformed _ tt (λ none. tt)))
+account_way : (S : Tables) (r : List ℕ) (n : ℕ) (p : List ℕ) (j : ℕ) (v : Verdict) → OfAccount S r n p (to.Orders j) v → IsList v
+account_way S r n p j v (OfAccount.turned_away t why ss) = tt
+account_way S r n p j v (OfAccount.orders_listed k) = tt
+
+request_way : (S : Tables) (r : List ℕ) (s : Signed) (j : ℕ) (v : Verdict) → OfRequest S r s (to.Orders j) v → IsList v
+request_way S r s j v (OfRequest.unheld t why) = tt
+request_way S r s j v (OfRequest.held t w key x is found valid way) = account_way S r x.number s.payload j v way
 
 lists : (S : Tables) (r : List ℕ) (s : Signed) (j : ℕ) → IsList (signed_verdict S r (record s { target = to.Orders j }))
-lists S r s j = grind (arith, key_lists)
+lists S r s j = request_way S r _ j _ (request_judged S r (record s { target = to.Orders j }))
 
 -- ---- the request
 

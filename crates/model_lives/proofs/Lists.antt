@@ -38,6 +38,10 @@ pub filtered_each : {X : Type 0} (P : X → Type 0) (p : X → Bool) (xs : List 
 filtered_each P p [] h = tt
 filtered_each P p (x ∷ xs) h = grind (arith, (filtered_each P p xs h.1))
 
+-- what a test leaves passes it
+pub each_passes : {X : Type 0} (p : X → Bool) (xs : List X) → EachOf (λ x. p x ≡ true) (filter p xs)
+each_passes p xs = filtered_each _ p xs (each _ _ xs (λ x member yes. yes) (each_member xs))
+
 -- tests that agree on each item leave the same
 pub filter_same : {X : Type 0} (p q : X → Bool) (xs : List X) → EachOf (λ x. p x ≡ q x) xs → filter p xs ≡ filter q xs
 filter_same p q [] h = refl

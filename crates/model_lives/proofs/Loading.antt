@@ -11,22 +11,20 @@ use Rattle.desk_model.specs.{Derived.authz_code, Derived.numbers_of, Derived.ord
 use Rattle.desk_model.specs.{Effect.has_row, Effect.is_live_order, Effect.is_overdue, Name.Name, Name.same_name, declared.call.Ask.Ask, declared.call.Call.Call}
 use Rattle.desk_model.specs.{declared.objects.Nonce.Nonce, declared.rows.AccountRow.AccountRow, declared.rows.AuthorizationRow.AuthorizationRow}
 use Rattle.desk_model.specs.{declared.rows.OrderRow.OrderRow, declared.status.AuthzStatus.AuthzStatus, declared.status.OrderStatus.OrderStatus}
+use Rattle.model_laws.specs.Ordered.{IsOrdered}
+use Rattle.model_laws.proofs.Basics.{each, eq_turn, list_any-map, list_any-same}
+use Rattle.model_lives.specs.Loaded.{accounts_once, challenge_numbers, found_accounts, keys, listing_orders, named_accounts, order_numbers, own_authorizations}
+use Rattle.model_lives.specs.Loaded.{authorizations_once, account_numbers, named_authorizations, asked_authorizations, authorizations_for, past_authorizations}
+use Rattle.model_lives.specs.Loaded.{orders_once, found_nonces, new_keys, found_orders, loaded, loaded_at, loaded_rows, named_orders, own_orders, past_orders}
+use Rattle.model_lives.specs.Loaded.{authorization_numbers, first_authorizations, found_authorizations, listed_authorizations, authorizations_asked_of, serials}
+use Rattle.model_lives.specs.LookUps.{accounts_numbered, accounts_with_key, authorizations_numbered, challenges, orders_listing, orders_numbered, orders_past}
+use Rattle.model_lives.specs.LookUps.{owners_of, places}
+use Rattle.model_lives.proofs.{Cut.numbered, Found.IsFound, Found.any_filter, Found.found_both, Found.found_by, Found.found_filter, Found.found_filtered}
+use Rattle.model_lives.proofs.{Found.found_if, Found.found_none, Found.found_once, Found.found_same, Found.found_alike, Found.found_beside, Found.found_table}
 use Rattle.desk_model.specs.declared.call.Ask.TheVariants as ask
 use Rattle.desk_model.specs.declared.call.OfficeAsk.TheVariants as office
 use Rattle.desk_model.specs.declared.status.AuthzStatus.TheVariants as authz
 use Rattle.desk_model.specs.declared.status.OrderStatus.TheVariants as order
-use Rattle.model_laws.specs.Ordered.{IsOrdered}
-use Rattle.model_laws.proofs.Basics.{each, each_all, eq_turn, list_any-map, list_any-same}
-use Rattle.model_lives.specs.Loaded.{accounts_once, authorizations_once, orders_once, account_numbers, authorization_numbers, challenge_numbers}
-use Rattle.model_lives.specs.Loaded.{first_authorizations, found_accounts, found_authorizations, found_nonces, new_keys, found_orders}
-use Rattle.model_lives.specs.Loaded.{keys, listed_authorizations, listing_orders, loaded, loaded_at, loaded_rows, named_accounts, named_authorizations}
-use Rattle.model_lives.specs.Loaded.{named_orders, order_numbers, asked_authorizations, authorizations_asked_of, authorizations_for}
-use Rattle.model_lives.specs.Loaded.{own_authorizations, own_orders, past_authorizations, past_orders, serials}
-use Rattle.model_lives.specs.LookUps.{accounts_numbered, accounts_with_key, authorizations_numbered, authorizations_of, challenges, nonces_numbered}
-use Rattle.model_lives.specs.LookUps.{orders_listing, orders_numbered, orders_of, orders_past, owners_of, places}
-use Rattle.model_lives.proofs.Cut.{numbered}
-use Rattle.model_lives.proofs.Found.{IsFound, any_filter, found_both, found_by, found_filter, found_filtered, found_if, found_none, found_once, found_same}
-use Rattle.model_lives.proofs.Found.{found_table}
 
 -- ---- tests on lists
 
@@ -113,70 +111,46 @@ past_life m life x = grind arith
 
 pub nonces_found : (T : Tables) (m : ℕ) (a : Ask) → IsOrdered T → IsFound of_nonce (is_touched_nonce T m a) T.nonces (found_nonces T m a)
 nonces_found T m a h =
-    found_same of_nonce _ (is_touched_nonce T m a) T.nonces (found_nonces T m a)
-    (each_all _ T.nonces (λ x i. carried a x.serial i || past_life m T.meta.policy.nonce_life x i))
-    (found_both of_nonce (λ x. list_any (λ k. x.serial == k) (serials a)) (λ x. nat_lt x.issued (m - T.meta.policy.nonce_life)) T.nonces _ _
-    (found_by of_nonce (λ k x. x.serial == k) (nonces_numbered T) T.nonces (λ k. found_filter of_nonce (λ x. x.serial == k) 1 T.nonces h.nonces.0) (serials a))
-    (found_filter of_nonce (λ x. nat_lt x.issued (m - T.meta.policy.nonce_life)) 1 T.nonces h.nonces.0))
+    found_alike (found_both (found_by (λ k. found_filter h.nonces.0) (serials a)) (found_filter h.nonces.0))
+    (λ x i. carried a x.serial i || past_life m T.meta.policy.nonce_life x i)
 
 pub accounts_named : (T : Tables) (a : Ask) → IsOrdered T → IsFound of_account (is_named_account a) T.accounts (named_accounts T a)
 accounts_named T a h =
-    found_same of_account _ (is_named_account a) T.accounts (named_accounts T a)
-    (each_all _ T.accounts (λ x i. keyed a x.key i || (new_keyed a x.key i || account_listed a x.number i)))
-    (found_both of_account (λ x. list_any (λ k. bytes_eq x.key k) (keys a))
-    (λ x. list_any (λ k. bytes_eq x.key k) (new_keys a) || list_any (λ k. x.number == k) (account_numbers a)) T.accounts _ _
-    (keys_found (keys a))
-    (found_both of_account (λ x. list_any (λ k. bytes_eq x.key k) (new_keys a)) (λ x. list_any (λ k. x.number == k) (account_numbers a)) T.accounts _ _
-    (keys_found (new_keys a))
-    (found_by of_account (λ k x. x.number == k) (accounts_numbered T) T.accounts
-    (λ k. found_filter of_account (λ x. x.number == k) 1 T.accounts h.accounts.0) (account_numbers a))))
+    found_alike (found_both (keyed_by (keys a)) (found_both (keyed_by (new_keys a)) (found_by (λ k. found_filter h.accounts.0) (account_numbers a))))
+    (λ x i. keyed a x.key i || (new_keyed a x.key i || account_listed a x.number i))
   where
-    keys_found : (texts : List (List ℕ)) → IsFound of_account (λ x. list_any (λ k. bytes_eq x.key k) texts) T.accounts (flat_map (accounts_with_key T) texts)
-    keys_found texts =
-        found_by of_account (λ k x. bytes_eq x.key k) (accounts_with_key T) T.accounts
-        (λ k. found_filter of_account (λ x. bytes_eq x.key k) 1 T.accounts h.accounts.0) texts
+    keyed_by : (texts : List (List ℕ)) → IsFound of_account (λ x. list_any (λ k. bytes_eq x.key k) texts) T.accounts (flat_map (accounts_with_key T) texts)
+    keyed_by = found_by (λ k. found_filter h.accounts.0)
 
 pub accounts_once_named : (T : Tables) (a : Ask) → IsOrdered T → IsFound of_account (is_named_account a) T.accounts (accounts_once (named_accounts T a))
-accounts_once_named T a h = found_once of_account (is_named_account a) 1 T.accounts (named_accounts T a) h.accounts.0 (accounts_named T a h)
+accounts_once_named T a h = found_once h.accounts.0 (accounts_named T a h)
+
+-- the account of a number
+pub account_at : (T : Tables) → IsOrdered T → (n : ℕ) → IsFound of_account (λ x. n == x.number) T.accounts (accounts_numbered T n)
+account_at T h n = found_alike (found_filter h.accounts.0) (λ x. eq_turn x.number n)
 
 orders_at : (T : Tables) → IsOrdered T → (ns : List ℕ) → IsFound of_order (λ o. list_any (λ k. o.number == k) ns) T.orders (flat_map (orders_numbered T) ns)
-orders_at T h ns = found_by of_order (λ k o. o.number == k) (orders_numbered T) T.orders
-    (λ k. found_filter of_order (λ o. o.number == k) 1 T.orders h.orders.0) ns
+orders_at T h = found_by (λ k. found_filter h.orders.0)
 
 pub authorizations_at : (T : Tables) → IsOrdered T → (ns : List ℕ) → IsFound of_authorization
     (λ r. list_any (λ k. r.number == k) ns) T.authorizations (flat_map (authorizations_numbered T) ns)
-authorizations_at T h ns =
-    found_by of_authorization (λ k r. r.number == k) (authorizations_numbered T) T.authorizations
-    (λ k. found_filter of_authorization (λ r. r.number == k) 1 T.authorizations h.authorizations.0) ns
+authorizations_at T h = found_by (λ k. found_filter h.authorizations.0)
 
 pub orders_named : (T : Tables) (a : Ask) → IsOrdered T → IsFound of_order (is_named_order a) T.orders (named_orders T a)
-orders_named T a h = found_same of_order _ (is_named_order a) T.orders (named_orders T a)
-    (each_all _ T.orders (λ o. order_listed a o.number)) (orders_at T h (order_numbers a))
+orders_named T a h = found_alike (orders_at T h (order_numbers a)) (λ o. order_listed a o.number)
 
 pub authorizations_named : (T : Tables) (a : Ask) → IsOrdered T → IsFound of_authorization (is_named_authorization a) T.authorizations
     (named_authorizations T a)
 authorizations_named T a h =
-    found_same of_authorization _ (is_named_authorization a) T.authorizations (named_authorizations T a)
-    (each_all _ T.authorizations (λ r i. authorization_listed a r.number i || challenge_listed a r i))
-    (found_both of_authorization (λ r. list_any (λ k. r.number == k) (authorization_numbers a))
-    (λ r. list_any (λ c. has_row c r) (challenge_numbers a)) T.authorizations _ _
-    (authorizations_at T h (authorization_numbers a))
-    (found_by of_authorization (λ c r. has_row c r) (λ c. flat_map (authorizations_numbered T) (owners_of T c)) T.authorizations
-    (λ c. found_same of_authorization _ (has_row c) T.authorizations _ (owner_found T h c) (authorizations_at T h (owners_of T c))) (challenge_numbers a)))
+    found_alike (found_both (authorizations_at T h (authorization_numbers a))
+    (found_by (λ c. found_same (authorizations_at T h (owners_of T c)) (owner_found T h c)) (challenge_numbers a)))
+    (λ r i. authorization_listed a r.number i || challenge_listed a r i)
 
 orders_own : (T : Tables) (a : Ask) → IsOrdered T → IsFound of_order (is_own_order T a) T.orders (own_orders T a)
-orders_own T a h =
-    found_if of_order (asks_orders a) (λ o. list_any (λ x. is_named_account a x && (o.account == x.number)) T.accounts) T.orders _
-    (found_same of_order _ _ T.orders _ (each_all _ T.orders (λ o. (accounts_once_named T a h).tests (λ x. o.account == x.number)))
-    (found_by of_order (λ (x : AccountRow) o. o.account == x.number) (λ x. orders_of T x.number) T.orders
-    (λ x. found_filter of_order (λ o. o.account == x.number) 1 T.orders h.orders.0) (accounts_once (named_accounts T a))))
+orders_own T a h = found_if (asks_orders a) (found_beside (λ x. found_filter h.orders.0) (accounts_once_named T a h))
 
 authorizations_own : (T : Tables) (a : Ask) → IsOrdered T → IsFound of_authorization (is_own_authorization T a) T.authorizations (own_authorizations T a)
-authorizations_own T a h =
-    found_if of_authorization (asks_authorizations a) (λ r. list_any (λ x. is_named_account a x && (r.account == x.number)) T.accounts) T.authorizations _
-    (found_same of_authorization _ _ T.authorizations _ (each_all _ T.authorizations (λ r. (accounts_once_named T a h).tests (λ x. r.account == x.number)))
-    (found_by of_authorization (λ (x : AccountRow) r. r.account == x.number) (λ x. authorizations_of T x.number) T.authorizations
-    (λ x. found_filter of_authorization (λ r. r.account == x.number) 1 T.authorizations h.authorizations.0) (accounts_once (named_accounts T a))))
+authorizations_own T a h = found_if (asks_authorizations a) (found_beside (λ x. found_filter h.authorizations.0) (accounts_once_named T a h))
 
 -- a test that knows nothing of the items stands before the others
 any_under : {X : Type 0} (b : Bool) (p : X → Bool) (xs : List X) → list_any (λ x. b && p x) xs ≡ (b && list_any p xs)
@@ -196,13 +170,8 @@ same_bases one other b = grind arith
 authorizations_by_names : (T : Tables) (n : ℕ) → IsOrdered T → (names : List Name)
     → IsFound of_authorization (λ r. list_any (same_name r.name) names && (r.account == n)) T.authorizations (flat_map (authorizations_for T n) names)
 authorizations_by_names T n h names =
-    found_same of_authorization _ _ T.authorizations _
-    (each_all _ T.authorizations (λ r. list_any-same _ _ names (λ name. same_bases r.name name (r.account == n))
-    ∙ any_behind (r.account == n) (same_name r.name) names))
-    (found_by of_authorization (λ name r. same_name r.name name && ((r.account == n) && bytes_eq r.name.base name.base))
-    (authorizations_for T n) T.authorizations
-    (λ name. found_filtered of_authorization (λ r. same_name r.name name) _ T.authorizations _
-    (found_filter of_authorization (λ r. (r.account == n) && bytes_eq r.name.base name.base) 1 T.authorizations h.authorizations.0)) names)
+    found_alike (found_by (λ name. found_filtered (λ r. same_name r.name name) (found_filter h.authorizations.0)) names)
+    (λ r. list_any-same _ _ names (λ name. same_bases r.name name (r.account == n)) ∙ any_behind (r.account == n) (same_name r.name) names)
 
 -- the authorizations for some names of the accounts that are found
 pub asked_found : (T : Tables) (test : AccountRow → Bool) (rows : List AccountRow) → IsOrdered T → IsFound of_account test T.accounts rows →
@@ -211,27 +180,22 @@ pub asked_found : (T : Tables) (test : AccountRow → Bool) (rows : List Account
     T.authorizations (authorizations_asked_of T names rows)
 asked_found T test rows h is None = found_none of_authorization T.authorizations
 asked_found T test rows h is (Some names) =
-    found_same of_authorization _ _ T.authorizations _
-    (each_all _ T.authorizations (λ r. any_under (list_any (same_name r.name) names) (λ x. r.account == x.number) rows
-    ∙ ap (λ b. list_any (same_name r.name) names && b) (is.tests (λ x. r.account == x.number))))
-    (found_by of_authorization (λ (x : AccountRow) r. list_any (same_name r.name) names && (r.account == x.number))
-    (λ x. flat_map (authorizations_for T x.number) names) T.authorizations
-    (λ x. authorizations_by_names T x.number h names) rows)
+    found_alike (found_by (λ (x : AccountRow). authorizations_by_names T x.number h names) rows)
+    (λ r. any_under (list_any (same_name r.name) names) (λ x. r.account == x.number) rows
+    ∙ ap (λ b. list_any (same_name r.name) names && b) (is.tests (λ x. r.account == x.number)))
 
 authorizations_asked : (T : Tables) (a : Ask) → IsOrdered T → IsFound of_authorization (is_asked_authorization T a) T.authorizations (asked_authorizations T a)
 authorizations_asked T a h = asked_found T (is_named_account a) (accounts_once (named_accounts T a)) h (accounts_once_named T a h) (asked_names a)
 
 pub orders_over : (T : Tables) (m : ℕ) → IsOrdered T → IsFound of_order (is_past_order m) T.orders (past_orders T m)
 orders_over T m h =
-    found_same of_order _ (is_past_order m) T.orders (past_orders T m) (each_all _ T.orders (λ o. by o.status (nat_lt o.expires m)))
-    (found_both of_order (of_status order.Pending) (λ o. of_status order.Ready o || of_status order.Processing o) T.orders _ _ (one order.Pending)
-    (found_both of_order (of_status order.Ready) (of_status order.Processing) T.orders _ _ (one order.Ready) (one order.Processing)))
+    found_alike (found_both (one order.Pending) (found_both (one order.Ready) (one order.Processing))) (λ o. by o.status (nat_lt o.expires m))
   where
     of_status : OrderStatus → OrderRow → Bool
     of_status s o = (order_code o.status == order_code s) && nat_lt o.expires m
 
     one : (s : OrderStatus) → IsFound of_order (of_status s) T.orders (orders_past T s m)
-    one s = found_filter of_order (λ o. (order_code o.status == order_code s) && nat_lt o.expires m) 1 T.orders h.orders.0
+    one s = found_filter h.orders.0
 
     by : (s : OrderStatus) (b : Bool) →
         (((order_code s == order_code order.Pending) && b)
@@ -241,12 +205,7 @@ orders_over T m h =
 
 pub authorizations_over : (T : Tables) (m : ℕ) → IsOrdered T → IsFound of_authorization (is_overdue m) T.authorizations (past_authorizations T m)
 authorizations_over T m h =
-    found_same of_authorization _ (is_overdue m) T.authorizations (past_authorizations T m)
-    (each_all _ T.authorizations (λ r. by r.status (nat_lt r.expires m)))
-    (found_both of_authorization (λ r. (authz_code r.status == authz_code authz.Pending) && nat_lt r.expires m)
-    (λ r. (authz_code r.status == authz_code authz.Valid) && nat_lt r.expires m) T.authorizations _ _
-    (found_filter of_authorization (λ r. (authz_code r.status == authz_code authz.Pending) && nat_lt r.expires m) 1 T.authorizations h.authorizations.0)
-    (found_filter of_authorization (λ r. (authz_code r.status == authz_code authz.Valid) && nat_lt r.expires m) 1 T.authorizations h.authorizations.0))
+    found_alike (found_both (found_filter h.authorizations.0) (found_filter h.authorizations.0)) (λ r. by r.status (nat_lt r.expires m))
   where
     by : (s : AuthzStatus) (b : Bool) → (((authz_code s == authz_code authz.Pending) && b)
         || ((authz_code s == authz_code authz.Valid) && b)) ≡ (is_live s && b)
@@ -262,33 +221,22 @@ pub orders_listed : (T : Tables) (test : AuthorizationRow → Bool) (rows : List
     → IsFound of_authorization test T.authorizations rows →
     IsFound of_order (λ o. list_any (λ r. test r && lists o r.number) T.authorizations) T.orders (listing_orders T rows)
 orders_listed T test rows h is =
-    found_same of_order _ _ T.orders (listing_orders T rows) (each_all _ T.orders (λ o. is.tests (λ r. lists o r.number)))
-    (found_by of_order (λ (r : AuthorizationRow) o. lists o r.number) (λ r. flat_map (orders_numbered T) (orders_listing T r.number)) T.orders
-    (λ r. found_same of_order _ (λ o. lists o r.number) T.orders _ (listing_found T h r.number) (orders_at T h (orders_listing T r.number))) rows)
+    found_beside (λ (r : AuthorizationRow). found_same (orders_at T h (orders_listing T r.number)) (listing_found T h r.number)) is
 
 orders_found : (T : Tables) (m : ℕ) (a : Ask) → IsOrdered T → IsFound of_order (is_touched_order T m a) T.orders (found_orders T m a)
 orders_found T m a h =
-    found_both of_order (λ o. is_named_order a o || (is_own_order T a o || is_past_order m o))
-    (λ o. list_any (λ r. is_first_authorization T m a r && lists o r.number) T.authorizations) T.orders _ _
-    (found_both of_order (is_named_order a) (λ o. is_own_order T a o || is_past_order m o) T.orders _ _ (orders_named T a h)
-    (found_both of_order (is_own_order T a) (is_past_order m) T.orders _ _ (orders_own T a h) (orders_over T m h)))
-    (orders_listed T (is_first_authorization T m a) (authorizations_once (first_authorizations T m a)) h
-    (found_once of_authorization (is_first_authorization T m a) 1 T.authorizations (first_authorizations T m a) h.authorizations.0
-    (authorizations_first T m a h)))
+    found_both (found_both (orders_named T a h) (found_both (orders_own T a h) (orders_over T m h)))
+    (orders_listed T (is_first_authorization T m a) _ h (found_once h.authorizations.0 (authorizations_first T m a h)))
 
 orders_once_found : (T : Tables) (m : ℕ) (a : Ask) → IsOrdered T → IsFound of_order (is_touched_order T m a) T.orders (orders_once (found_orders T m a))
-orders_once_found T m a h = found_once of_order (is_touched_order T m a) 1 T.orders (found_orders T m a) h.orders.0 (orders_found T m a h)
+orders_once_found T m a h = found_once h.orders.0 (orders_found T m a h)
 
 -- authorizations that the orders found list
 pub authorizations_listed : (T : Tables) (test : OrderRow → Bool) (rows : List OrderRow) → IsOrdered T → IsFound of_order test T.orders rows →
     IsFound of_authorization (λ r. list_any (λ o. test o && lists o r.number) T.orders) T.authorizations (listed_authorizations T rows)
 authorizations_listed T test rows h is =
-    found_same of_authorization _ _ T.authorizations (listed_authorizations T rows)
-    (each_all _ T.authorizations (λ r. is.tests (λ o. list_any (λ n. r.number == n) (numbers_of o.listed))
-    ∙ list_any-same _ _ T.orders (λ o. ap (λ b. test o && b) (list_any-same _ _ (numbers_of o.listed) (λ n. eq_turn r.number n)))))
-    (found_by of_authorization (λ (o : OrderRow) r. list_any (λ n. r.number == n) (numbers_of o.listed))
-    (λ o. flat_map (authorizations_numbered T) (numbers_of o.listed)) T.authorizations
-    (λ o. authorizations_at T h (numbers_of o.listed)) rows)
+    found_beside (λ (o : OrderRow). found_alike (authorizations_at T h (numbers_of o.listed))
+    (λ r. list_any-same _ _ (numbers_of o.listed) (λ n. eq_turn r.number n))) is
 
 authorizations_found : (T : Tables) (m : ℕ) (a : Ask) → IsOrdered T
     → IsFound of_authorization (is_touched_authorization T m a) T.authorizations (found_authorizations T m a)
@@ -300,19 +248,8 @@ authorizations_once_found T m a h = search (rules, found_once, authorizations_fo
 
 accounts_found : (T : Tables) (m : ℕ) (a : Ask) → IsOrdered T → IsFound of_account (is_touched_account T m a) T.accounts (found_accounts T m a)
 accounts_found T m a h =
-    found_both of_account (is_named_account a) _ T.accounts _ _ (accounts_named T a h)
-    (found_both of_account (λ x. list_any (λ o. is_touched_order T m a o && (o.account == x.number)) T.orders)
-    (λ x. list_any (λ r. is_touched_authorization T m a r && (r.account == x.number)) T.authorizations) T.accounts _ _
-    (found_same of_account _ _ T.accounts _
-    (each_all _ T.accounts (λ x. (orders_once_found T m a h).tests (λ o. x.number == o.account)
-    ∙ list_any-same _ _ T.orders (λ o. ap (λ b. is_touched_order T m a o && b) (eq_turn x.number o.account))))
-    (found_by of_account (λ (o : OrderRow) x. x.number == o.account) (λ o. accounts_numbered T o.account) T.accounts
-    (λ o. found_filter of_account (λ x. x.number == o.account) 1 T.accounts h.accounts.0) (orders_once (found_orders T m a))))
-    (found_same of_account _ _ T.accounts _
-    (each_all _ T.accounts (λ x. (authorizations_once_found T m a h).tests (λ r. x.number == r.account)
-    ∙ list_any-same _ _ T.authorizations (λ r. ap (λ b. is_touched_authorization T m a r && b) (eq_turn x.number r.account))))
-    (found_by of_account (λ (r : AuthorizationRow) x. x.number == r.account) (λ r. accounts_numbered T r.account) T.accounts
-    (λ r. found_filter of_account (λ x. x.number == r.account) 1 T.accounts h.accounts.0) (authorizations_once (found_authorizations T m a)))))
+    found_both (accounts_named T a h) (found_both (found_beside (λ (o : OrderRow). account_at T h o.account) (orders_once_found T m a h))
+    (found_beside (λ (r : AuthorizationRow). account_at T h r.account) (authorizations_once_found T m a h)))
 
 -- ---- as tables
 

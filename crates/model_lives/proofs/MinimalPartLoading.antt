@@ -1,33 +1,26 @@
 -- What the look-ups of the few rows find is what is enough, rule by rule.
-use Rattle.std.proofs.Common.{◌≡◌, ℕ, List, [], ◌++◌, refl, ap, ◌∙◌, true, false, Bool, not, arith, rules}
+use Rattle.std.proofs.Common.{◌≡◌, ℕ, List, [], ◌++◌, refl, true, false, Bool, not, arith, rules}
 use Rattle.std.specs.{Prelude.◌==◌, Prelude.◌&&◌, Prelude.◌||◌, Prelude.if◌then◌else◌, List.list_any}
 use Rattle.desk_model.specs.Asked.{asked_names, asks_authorizations, asks_orders}
 use Rattle.desk_model.specs.Touched.{is_named_account, is_named_order, is_past_order, lists}
 use Rattle.desk_model.specs.{Tables.Tables, declared.call.Ask.Ask, declared.rows.AccountRow.AccountRow, declared.rows.AuthorizationRow.AuthorizationRow}
 use Rattle.model_laws.specs.Ordered.{IsOrdered}
-use Rattle.model_laws.proofs.Basics.{each_all, eq_turn, list_any-same}
 use Rattle.model_lives.specs.MinimalPart.{minimal_rows, is_needed_account, is_needed_authorization, is_needed_order, is_moved_authorization, is_opened_order}
 use Rattle.model_lives.specs.MinimalPart.{is_restated_authorization, is_wanted_authorization, is_whole_authorization, is_whole_order, needs_listed}
 use Rattle.model_lives.specs.MinimalPart.{changes_statuses}
-use Rattle.model_lives.specs.MinimalPartLoaded.{minimal_accounts, minimal_authorizations, minimal_loaded, minimal_orders, holders_of, listed_orders, moved_authorizations}
-use Rattle.model_lives.specs.MinimalPartLoaded.{opened_orders, restated_authorizations, whole_authorizations}
-use Rattle.model_lives.specs.Loaded.{accounts_once, authorizations_asked_of, authorizations_once, named_accounts, named_orders, orders_once}
-use Rattle.model_lives.specs.LookUps.{accounts_numbered, authorizations_of, orders_of}
-use Rattle.model_lives.proofs.Found.{IsFound, found_both, found_by, found_filter, found_if, found_once, found_same, found_table}
-use Rattle.model_lives.proofs.Loading.{asked_found, accounts_named, accounts_once_named, authorizations_listed, authorizations_named, authorizations_over}
-use Rattle.model_lives.proofs.Loading.{nonces_found, of_account, of_authorization, of_order, orders_listed, orders_named, orders_over}
+use Rattle.model_lives.specs.MinimalPartLoaded.{minimal_accounts, minimal_authorizations, minimal_loaded, minimal_orders, holders_of, listed_orders}
+use Rattle.model_lives.specs.MinimalPartLoaded.{moved_authorizations, opened_orders, restated_authorizations, whole_authorizations}
+use Rattle.model_lives.specs.Loaded.{accounts_once, authorizations_asked_of, authorizations_once, named_orders, orders_once}
+use Rattle.model_lives.proofs.Found.{IsFound, found_alike, found_beside, found_both, found_filter, found_if, found_once, found_table}
+use Rattle.model_lives.proofs.Loading.{account_at, asked_found, accounts_named, accounts_once_named, authorizations_listed, authorizations_named}
+use Rattle.model_lives.proofs.Loading.{authorizations_over, nonces_found, of_account, of_authorization, of_order, orders_listed, orders_named, orders_over}
 
 moved_found : (T : Tables) (a : Ask) → IsOrdered T → IsFound of_authorization (is_moved_authorization T a) T.authorizations (moved_authorizations T a)
 moved_found T a h =
-    found_both of_authorization _ _ T.authorizations _ _ (authorizations_named T a h)
-    (found_same of_authorization _ _ T.authorizations _
-    (each_all _ T.authorizations (λ r.
-    together (changes_statuses a) (asks_authorizations a) (list_any (λ x. is_named_account a x && (r.account == x.number)) T.accounts)))
-    (found_if of_authorization (changes_statuses a && asks_authorizations a) (λ r. list_any (λ x. is_named_account a x && (r.account == x.number)) T.accounts)
-    T.authorizations _
-    (found_same of_authorization _ _ T.authorizations _ (each_all _ T.authorizations (λ r. (accounts_once_named T a h).tests (λ x. r.account == x.number)))
-    (found_by of_authorization (λ (x : AccountRow) r. r.account == x.number) (λ x. authorizations_of T x.number) T.authorizations
-    (λ x. found_filter of_authorization (λ r. r.account == x.number) 1 T.authorizations h.authorizations.0) (accounts_once (named_accounts T a))))))
+    found_both (authorizations_named T a h)
+    (found_alike (found_if (changes_statuses a && asks_authorizations a)
+    (found_beside (λ (x : AccountRow). found_filter h.authorizations.0) (accounts_once_named T a h)))
+    (λ r. together (changes_statuses a) (asks_authorizations a) (list_any (λ x. is_named_account a x && (r.account == x.number)) T.accounts)))
   where
     together : (b c d : Bool) → ((b && c) && d) ≡ (b && (c && d))
     together true c d = refl
@@ -35,24 +28,19 @@ moved_found T a h =
 
 moved_once : (T : Tables) (a : Ask) → IsOrdered T → IsFound of_authorization (is_moved_authorization T a) T.authorizations
     (authorizations_once (moved_authorizations T a))
-moved_once T a h = found_once of_authorization (is_moved_authorization T a) 1 T.authorizations (moved_authorizations T a) h.authorizations.0 (moved_found T a h)
+moved_once T a h = found_once h.authorizations.0 (moved_found T a h)
 
 -- the accounts of the authorizations that are found
 holders_found : (T : Tables) (test : AuthorizationRow → Bool) (rows : List AuthorizationRow) → IsOrdered T →
     IsFound of_authorization test T.authorizations rows →
     IsFound of_account (λ x. list_any (λ r. test r && (r.account == x.number)) T.authorizations) T.accounts (holders_of T rows)
-holders_found T test rows h is =
-    found_same of_account _ _ T.accounts _
-    (each_all _ T.accounts (λ x. is.tests (λ r. x.number == r.account)
-    ∙ list_any-same _ _ T.authorizations (λ r. ap (λ b. test r && b) (eq_turn x.number r.account))))
-    (found_by of_account (λ (r : AuthorizationRow) x. x.number == r.account) (λ r. accounts_numbered T r.account) T.accounts
-    (λ r. found_filter of_account (λ x. x.number == r.account) 1 T.accounts h.accounts.0) rows)
+holders_found T test rows h is = found_beside (λ (r : AuthorizationRow). account_at T h r.account) is
 
 accounts_minimal : (T : Tables) (a : Ask) → IsOrdered T → IsFound of_account (is_needed_account T a) T.accounts (minimal_accounts T a)
 accounts_minimal T a h = search (rules, found_both, accounts_named, found_if, holders_found, moved_once)
 
 accounts_minimal_once : (T : Tables) (a : Ask) → IsOrdered T → IsFound of_account (is_needed_account T a) T.accounts (accounts_once (minimal_accounts T a))
-accounts_minimal_once T a h = found_once of_account (is_needed_account T a) 1 T.accounts (minimal_accounts T a) h.accounts.0 (accounts_minimal T a h)
+accounts_minimal_once T a h = found_once h.accounts.0 (accounts_minimal T a h)
 
 pub restated_found : (T : Tables) (m : ℕ) (a : Ask) → IsOrdered T →
     IsFound of_authorization (is_restated_authorization T m a) T.authorizations (restated_authorizations T m a)
@@ -60,32 +48,22 @@ restated_found T m a h = search (rules, found_both, authorizations_over, found_i
 
 opened_found : (T : Tables) (m : ℕ) (a : Ask) → IsOrdered T → IsFound of_order (is_opened_order T m a) T.orders (opened_orders T m a)
 opened_found T m a h =
-    found_both of_order _ _ T.orders _ _
-    (found_both of_order _ _ T.orders _ _ (orders_over T m h)
-    (orders_listed T (is_restated_authorization T m a) (authorizations_once (restated_authorizations T m a)) h
-    (found_once of_authorization (is_restated_authorization T m a) 1 T.authorizations (restated_authorizations T m a) h.authorizations.0
-    (restated_found T m a h))))
-    (found_if of_order (needs_listed a) (is_named_order a) T.orders _ (orders_named T a h))
+    found_both (found_both (orders_over T m h)
+    (orders_listed T (is_restated_authorization T m a) _ h (found_once h.authorizations.0 (restated_found T m a h))))
+    (found_if (needs_listed a) (orders_named T a h))
 
 opened_once : (T : Tables) (m : ℕ) (a : Ask) → IsOrdered T → IsFound of_order (is_opened_order T m a) T.orders (orders_once (opened_orders T m a))
-opened_once T m a h = found_once of_order (is_opened_order T m a) 1 T.orders (opened_orders T m a) h.orders.0 (opened_found T m a h)
+opened_once T m a h = found_once h.orders.0 (opened_found T m a h)
 
 pub listed_orders_found : (T : Tables) (a : Ask) → IsOrdered T → IsFound of_order
     (λ o. asks_orders a && list_any (λ x. is_needed_account T a x && (o.account == x.number)) T.accounts) T.orders (listed_orders T a)
-listed_orders_found T a h =
-    found_if of_order (asks_orders a) (λ o. list_any (λ x. is_needed_account T a x && (o.account == x.number)) T.accounts) T.orders _
-    (found_same of_order _ _ T.orders _ (each_all _ T.orders (λ o. (accounts_minimal_once T a h).tests (λ x. o.account == x.number)))
-    (found_by of_order (λ (x : AccountRow) o. o.account == x.number) (λ x. orders_of T x.number) T.orders
-    (λ x. found_filter of_order (λ o. o.account == x.number) 1 T.orders h.orders.0) (accounts_once (minimal_accounts T a))))
+listed_orders_found T a h = found_if (asks_orders a) (found_beside (λ (x : AccountRow). found_filter h.orders.0) (accounts_minimal_once T a h))
 
 orders_minimal : (T : Tables) (m : ℕ) (a : Ask) → IsOrdered T → IsFound of_order (is_needed_order T m a) T.orders (minimal_orders T m a)
 orders_minimal T m a h =
-    found_same of_order _ _ T.orders _
-    (each_all _ T.orders (λ o. by (is_past_order m o || list_any (λ r. is_restated_authorization T m a r && lists o r.number) T.authorizations)
-    (needs_listed a) (is_named_order a o) (asks_orders a && list_any (λ x. is_needed_account T a x && (o.account == x.number)) T.accounts)))
-    (found_both of_order _ _ T.orders _ _ (opened_found T m a h)
-    (found_both of_order _ _ T.orders _ _ (found_if of_order (not (needs_listed a)) (is_named_order a) T.orders _ (orders_named T a h))
-    (listed_orders_found T a h)))
+    found_alike (found_both (opened_found T m a h) (found_both (found_if (not (needs_listed a)) (orders_named T a h)) (listed_orders_found T a h)))
+    (λ o. by (is_past_order m o || list_any (λ r. is_restated_authorization T m a r && lists o r.number) T.authorizations)
+    (needs_listed a) (is_named_order a o) (asks_orders a && list_any (λ x. is_needed_account T a x && (o.account == x.number)) T.accounts))
   where
     by : (x n d w : Bool) → ((x || (n && d)) || ((not n && d) || w)) ≡ ((x || (n && d)) || (d || w))
     by k n d w = grind arith
@@ -94,10 +72,9 @@ orders_minimal T m a h =
 pub whole_found : (T : Tables) (m : ℕ) (a : Ask) → IsOrdered T →
     IsFound of_order (is_whole_order T m a) T.orders (opened_orders T m a ++ (if not (needs_listed a) then named_orders T a else []))
 whole_found T m a h =
-    found_same of_order _ _ T.orders _
-    (each_all _ T.orders (λ o. by (is_past_order m o || list_any (λ r. is_restated_authorization T m a r && lists o r.number) T.authorizations)
-    (needs_listed a) (is_named_order a o)))
-    (found_both of_order _ _ T.orders _ _ (opened_found T m a h) (found_if of_order (not (needs_listed a)) (is_named_order a) T.orders _ (orders_named T a h)))
+    found_alike (found_both (opened_found T m a h) (found_if (not (needs_listed a)) (orders_named T a h)))
+    (λ o. by (is_past_order m o || list_any (λ r. is_restated_authorization T m a r && lists o r.number) T.authorizations)
+    (needs_listed a) (is_named_order a o))
   where
     by : (x n d : Bool) → ((x || (n && d)) || (not n && d)) ≡ ((x || (n && d)) || d)
     by x n d = grind arith
@@ -114,11 +91,9 @@ whole_authorizations_found T m a h = search (rules, found_both, restated_found, 
 authorizations_minimal : (T : Tables) (m : ℕ) (a : Ask) → IsOrdered T →
     IsFound of_authorization (is_needed_authorization T m a) T.authorizations (minimal_authorizations T m a)
 authorizations_minimal T m a h =
-    found_same of_authorization _ _ T.authorizations _
-    (each_all _ T.authorizations (λ r. by (is_restated_authorization T m a r) (list_any (λ o. is_opened_order T m a o && lists o r.number) T.orders)
-    (is_moved_authorization T a r || is_wanted_authorization T a r)))
-    (found_both of_authorization _ _ T.authorizations _ _ (whole_authorizations_found T m a h)
-    (authorizations_listed T (is_opened_order T m a) (orders_once (opened_orders T m a)) h (opened_once T m a h)))
+    found_alike (found_both (whole_authorizations_found T m a h) (authorizations_listed T (is_opened_order T m a) _ h (opened_once T m a h)))
+    (λ r. by (is_restated_authorization T m a r) (list_any (λ o. is_opened_order T m a o && lists o r.number) T.orders)
+    (is_moved_authorization T a r || is_wanted_authorization T a r))
   where
     by : (x l w : Bool) → ((x || w) || l) ≡ ((x || l) || w)
     by x l w = grind arith

@@ -11,11 +11,10 @@ use Rattle.model_lives.specs.AnswersAs.{AnswersAs}
 use Rattle.model_lives.specs.MinimalPart.{as_needed, authorization_as_needed, minimal_rows, is_needed_authorization, is_needed_order, is_moved_authorization}
 use Rattle.model_lives.specs.MinimalPart.{is_restated_authorization, is_whole_authorization, needed_rows, changes_statuses}
 use Rattle.model_lives.specs.Thinned.{Thinning, thin, thinned, whole_if, with_challenges, with_orders}
-use Rattle.model_lives.proofs.Grown.{kept_number, new_kept, same_kept, with_others}
-use Rattle.model_lives.proofs.Lists.{each_member, filter_nothing, filtered_each, turned}
-use Rattle.model_lives.proofs.{Trimming.AreWhole, Trimming.trimmed, Trimming.those, Cut.at_number, Cut.numbered, Fewer.minimal_cut, Fewer.minimal_kept}
-use Rattle.model_lives.proofs.{ListedAlone.needed_in_whole, ListedAlone.needed_same, ListedAlone.with_summaries, Thin.whole_authorizations, Thin.whole_orders}
-use Rattle.model_lives.proofs.{TrimmedVerdicts.IsNoList, TrimmedVerdicts.KeepsWhole, TrimmedVerdicts.answers_trimmed}
+use Rattle.model_lives.proofs.{Grown.kept_number, Grown.with_others, Lists.each_member, Trimming.AreWhole, Cut.at_number, Fewer.minimal_cut, Fewer.minimal_kept}
+use Rattle.model_lives.proofs.{Grown.new_kept, Grown.same_kept, Lists.turned, Trimming.trimmed, Trimming.those, Cut.numbered, Thin.whole_orders}
+use Rattle.model_lives.proofs.{Lists.filter_nothing, Lists.filtered_each, ListedAlone.needed_same, Thin.whole_authorizations, TrimmedVerdicts.IsNoList}
+use Rattle.model_lives.proofs.{ListedAlone.needed_in_whole, ListedAlone.with_summaries, TrimmedVerdicts.KeepsWhole, TrimmedVerdicts.answers_trimmed}
 
 abbrev number : AuthorizationRow → ℕ
 number r = r.number

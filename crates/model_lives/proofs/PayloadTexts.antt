@@ -7,7 +7,8 @@ use Rattle.desk_model.specs.Payload.{account_change, account_change_in, each_in,
 use Rattle.desk_model.specs.Payload.{says_deactivated, texts_in}
 use Rattle.desk_model.specs.{Texts.AreTexts, declared.payload.AccountChange.AccountChange, declared.payload.NewAccount.NewAccount}
 use Rattle.desk_model.specs.declared.payload.AccountChange.TheVariants as change
-use Rattle.model_lives.proofs.JsonTexts.{HoldsStrings, HoldItemStrings, HoldMemberStrings, map_holds, read_strings, then_holds}
+use Rattle.model_lives.proofs.{JsonContent.then_holds, JsonTexts.HoldsStrings, JsonTexts.HoldItemStrings, JsonTexts.HoldMemberStrings, JsonTexts.map_holds}
+use Rattle.model_lives.proofs.JsonTexts.{read_strings}
 
 -- ---- values
 

@@ -46,5 +46,5 @@ IsAnswered k m S (orders account wanted) = ReusedKept k (ordered account wanted)
 IsAnswered k m S (moves move) = IsCarried k m S (entry_of move) (λ T. moved_reply T move)
 
 -- an entry that touches what the ask names
-pub covered : (k : Kept) (T : Tables) (m : ℕ) (a : Ask) (e : Entry) → IsReady k T m a → IsNamedBy T a e → Covers k (swept m T) e
-covered k T m a e ready named = swept_covers k T m e (keeps_entry k T m a e ready.restated named)
+pub covered : {k : Kept} {T : Tables} {m : ℕ} {a : Ask} {e : Entry} → IsReady k T m a → IsNamedBy T a e → Covers k (swept m T) e
+covered {k} {T} {m} {a} {e} ready named = swept_covers k T m e (keeps_entry k T m a e ready.restated named)

@@ -1,48 +1,38 @@
 -- Of what a call neither names nor moves authorizations need no challenges: the verdict, what it records and what it shows stay the same.
-use Rattle.std.proofs.Common.{◌≡◌, ℕ, List, [], ◌∷◌, find, Option, Some, None, refl, sym, ap, subst, ◌∙◌, true, Bool, not, Result, Ok, Err, arith, rules}
+use Rattle.std.proofs.Common.{◌≡◌, ℕ, List, [], ◌∷◌, find, Option, Some, None, refl, sym, ap, subst, ◌∙◌, true, Bool, arith, rules}
 use Rattle.std.proofs.lemmas.Bool.{eqb-true, or_left}
-use Rattle.std.specs.Prelude.{◌==◌, ◌&&◌, bytes_eq, nat_le, length, option_map}
+use Rattle.std.specs.Prelude.{◌==◌, option_map}
 use Rattle.serde_json.specs.Data.{Data}
-use Rattle.desk_model.specs.Asked.{asks_authorizations, names_authorization, names_owner}
-use Rattle.desk_model.specs.Document.{account_url, expected, order_document, order_url}
 use Rattle.desk_model.specs.Effect.{effect, effects, has_row, is_overdue, swept, touches_authorization}
-use Rattle.desk_model.specs.Legal.{has_length, is_pending_challenge, is_problem, is_processing_challenge}
-use Rattle.desk_model.specs.Payload.{account_change, authorization_change, challenge_change, finalize, key_change, new_account, new_order}
-use Rattle.desk_model.specs.Questions.{account_on, account_with_key, authorization_on, challenge_of, order_end, order_on, owner_on, serves, serving_on}
-use Rattle.desk_model.specs.Rules.{account_verdict, authorization_verdict, certify_verdict, challenge_verdict, csr_in, fail_verdict, has_this_key, is_revoked}
-use Rattle.desk_model.specs.Rules.{is_revoked_status, kept, key_verdict, names_in, new_order_verdict, nothing, office_verdict, open_nonce, order_of, outcome_of}
-use Rattle.desk_model.specs.Rules.{own, rekey_verdict, report_verdict, revoke_account, revoke_authorization, same_outcome, same_problem, signed_verdict}
-use Rattle.desk_model.specs.Rules.{stands_open, subproblems, target_verdict, wanted}
+use Rattle.desk_model.specs.Questions.{account_on, account_with_key, authorization_on, order_end, order_on, owner_on, serves, serving_on}
+use Rattle.desk_model.specs.Rules.{authorization_verdict, certify_verdict, key_verdict, new_order_verdict, office_verdict, revoke_authorization, signed_verdict}
+use Rattle.desk_model.specs.Rules.{fail_verdict, kept, names_in, open_nonce, order_of, own, subproblems, target_verdict, wanted}
 use Rattle.desk_model.specs.Shown.{at, authorization_reply, certificate_reply, challenge_in, client_challenge_in, moved_reply, ok, reply_of, shown}
-use Rattle.desk_model.specs.{Account.is_valid as is_valid_account, Contact.contacts_fault, Entry.entry_of, Kept.EachOf, Lookup.holds, Name.Name, Tables.Tables}
-use Rattle.desk_model.specs.{Touched.is_named_account, Authorization.is_live, Authorization.is_pending, Decide.entries_of, Decide.verdict_reply}
-use Rattle.desk_model.specs.{Limits.longest_certificate, Limits.most_names, Order.is_processing, Order.is_ready, Verdict.check, Verdict.given}
 use Rattle.desk_model.specs.declared.entry.Entry.TheVariants.{Answered as answered, Issued as issued, Ordered as ordered, Spent as spent}
 use Rattle.desk_model.specs.declared.verdict.Verdict.TheVariants.{Answers as answers, Moves as moves, Opens as opens, Orders as orders}
-use Rattle.desk_model.specs.declared.{call.Ask.Ask, call.BadKey.BadKey, call.Finding.Finding, call.OrderProblem.OrderProblem, call.OfficeAsk.OfficeAsk}
-use Rattle.desk_model.specs.declared.{call.Signed.Signed, call.Target.Target, entry.Entry.Entry, entry.Move.Move, payload.AccountChange.AccountChange}
-use Rattle.desk_model.specs.declared.{payload.AuthorizationChange.AuthorizationChange, payload.ChallengeChange.ChallengeChange, payload.Identifier.Identifier}
-use Rattle.desk_model.specs.declared.{reply.Reply.Reply, reply.Subproblem.Subproblem, rows.AccountRow.AccountRow, rows.AuthorizationRow.AuthorizationRow}
-use Rattle.desk_model.specs.declared.{rows.OrderRow.OrderRow, verdict.Shows.Shows, verdict.Verdict.Verdict}
-use Rattle.desk_model.specs.declared.call.Ask.TheVariants as ask
-use Rattle.desk_model.specs.declared.call.OfficeAsk.TheVariants as office
-use Rattle.desk_model.specs.declared.call.Target.TheVariants as to
-use Rattle.desk_model.specs.declared.entry.Move.TheVariants as move
-use Rattle.desk_model.specs.declared.payload.AccountChange.TheVariants as change
-use Rattle.desk_model.specs.declared.payload.AuthorizationChange.TheVariants as authz_change
-use Rattle.desk_model.specs.declared.payload.ChallengeChange.TheVariants as chall_change
-use Rattle.desk_model.specs.declared.refusal.Refusal.TheVariants as refusal
-use Rattle.desk_model.specs.declared.verdict.Listing.TheVariants as listing
-use Rattle.desk_model.specs.declared.verdict.Shows.TheVariants as show
+use Rattle.desk_model.specs.{Asked.asks_authorizations, Asked.names_authorization, Document.order_document, Touched.is_named_account, declared.entry.Move.Move}
+use Rattle.desk_model.specs.{Asked.names_owner, Document.order_url, Payload.new_order, Kept.EachOf, Decide.entries_of, Limits.most_names, declared.call.Ask.Ask}
+use Rattle.desk_model.specs.{Legal.has_length, declared.call.Signed.Signed, declared.call.Target.Target, declared.entry.Entry.Entry, declared.reply.Reply.Reply}
+use Rattle.desk_model.specs.{Payload.authorization_change, declared.rows.OrderRow.OrderRow, declared.verdict.Shows.Shows, declared.verdict.Verdict.Verdict}
+use Rattle.desk_model.specs.{Account.is_valid as is_valid_account, declared.payload.Identifier.Identifier, declared.rows.AuthorizationRow.AuthorizationRow}
+use Rattle.desk_model.specs.{Entry.entry_of, Lookup.holds, Name.Name, Tables.Tables, Verdict.check, Verdict.given}
+use Rattle.desk_model.specs.{Decide.verdict_reply, declared.call.OfficeAsk.OfficeAsk, declared.reply.Subproblem.Subproblem, declared.rows.AccountRow.AccountRow}
 use Rattle.model_laws.proofs.Basics.{each, each_all, each-map, find-map}
 use Rattle.model_laws.proofs.{Finds.each_found, Finds.found_passes, Plain.issued_effect, Plain.spent_effect}
 use Rattle.model_lives.specs.AnswersAs.{AnswersAs, CarriesOutAs, IssuesAs, PassesAs, SettlesAs}
 use Rattle.model_lives.specs.{MinimalPart.is_end, MinimalPart.changes_statuses, Thinned.all_whole, Thinned.with_challenges}
 use Rattle.model_lives.proofs.Trimming.{AllWhole, AreWhole, NewWhole, trimmed, effects_trimmed, find_changed, recorded_trimmed, row_whole, swept_trimmed, those}
 use Rattle.model_lives.proofs.Trimming.{touches_trimmed}
-use Rattle.model_lives.proofs.Steps.{check_keeps, either_keeps, given_keeps, no_fault_keeps, own_same}
+use Rattle.model_lives.proofs.Judged.{OfAccount as by, OfOffice as way, OfRequest, held_key, office_judged, request_judged, sent}
 use Rattle.model_lives.proofs.Thin.{carries_thin, found_thin, rows_thin, whole_orders}
-use Rattle.model_lives.proofs.{Replies.owner_then, Lists.same_number, Verdicts.is_key, Verdicts.verdict_by, Walks.IsNoWork, Walks.sent}
+use Rattle.model_lives.proofs.{Replies.owner_then, Lists.same_number, Verdicts.own_same, Walks.IsNoWork}
+use Rattle.desk_model.specs.declared.call.Ask.TheVariants as ask
+use Rattle.desk_model.specs.declared.call.OfficeAsk.TheVariants as office
+use Rattle.desk_model.specs.declared.call.Target.TheVariants as to
+use Rattle.desk_model.specs.declared.entry.Move.TheVariants as move
+use Rattle.desk_model.specs.declared.refusal.Refusal.TheVariants as refusal
+use Rattle.desk_model.specs.declared.verdict.Listing.TheVariants as listing
+use Rattle.desk_model.specs.declared.verdict.Shows.TheVariants as show
 
 -- ---- what is asked of the rows
 
@@ -137,11 +127,7 @@ key_trimmed w S r key s t h (Some x) = ap (check (is_valid_account x.status) ref
 
 pub signed_trimmed : (w : ℕ → Bool) (S : Tables) (r : List ℕ) (s : Signed) → KeepsWhole w S (ask.Signed s) → signed_verdict (trimmed w S) r s
     ≡ signed_verdict S r s
-signed_trimmed w S r s h = by s.key
-  where
-    by : (key : Result (List ℕ) BadKey) → verdict_by (trimmed w S) r s key ≡ verdict_by S r s key
-    by (Err why) = refl
-    by (Ok key) = key_trimmed w S r key s s.target h (account_with_key S key)
+signed_trimmed w S r s h = grind (arith, (λ (key : List ℕ). key_trimmed w S r key s s.target h (account_with_key S key)))
 
 revoked_trimmed : (w : ℕ → Bool) (S : Tables) (n : ℕ) →
     given (authorization_on (trimmed w S) n) refusal.NotFound (revoke_authorization n) ≡ given (authorization_on S n) refusal.NotFound (revoke_authorization n)
@@ -234,139 +220,46 @@ later_touches w m S n r v h = nonces_touch w m S n r (entries_of v) (by v h)
 
 -- ---- the walk: each verdict shows and moves what is in whole
 
-report_on_whole : (w : ℕ → Bool) (S : Tables) (n : ℕ) (finding : Finding) → AreWhole w (has_row n) S.authorizations
-    → ActsOnWhole w S (report_verdict S n finding)
-report_on_whole w S n finding owner =
-    given_keeps (ActsOnWhole w S) (owner_on S n) refusal.NotFound _ tt (λ a found.
-    given_keeps (ActsOnWhole w S) (challenge_of n a) refusal.NotFound _ tt (λ c there.
-    given_keeps (ActsOnWhole w S) (outcome_of c.kind (expected c) finding) refusal.Malformed _ tt (λ o is.
-    either_keeps (ActsOnWhole w S) (holds (λ r. same_outcome r.outcome o) c.reported) _ _ owner
-    (check_keeps (ActsOnWhole w S) (is_pending a.status && is_processing_challenge c.status) refusal.Conflict _ tt (λ stands. owner)))))
-
-certify_on_whole : (w : ℕ → Bool) (S : Tables) (n : ℕ) (bytes : List ℕ) (o : OrderRow) → ActsOnWhole w S (certify_verdict n bytes o)
-certify_on_whole w S n bytes o =
-    check_keeps (ActsOnWhole w S) (nat_le 1 (length bytes)) refusal.Malformed _ tt (λ some.
-    check_keeps (ActsOnWhole w S) (nat_le (length bytes) longest_certificate) refusal.TooLarge _ tt (λ few.
-    either_keeps (ActsOnWhole w S) (holds (λ x. bytes_eq x.bytes bytes) o.certified) _ _ tt
-    (check_keeps (ActsOnWhole w S) (is_processing o.status) refusal.Conflict _ tt (λ stands. tt))))
-
-fail_on_whole : (w : ℕ → Bool) (S : Tables) (n : ℕ) (problem : OrderProblem) (o : OrderRow) → ActsOnWhole w S (fail_verdict n problem o)
-fail_on_whole w S n problem o =
-    check_keeps (ActsOnWhole w S) (is_problem problem) refusal.Malformed _ tt (λ formed.
-    either_keeps (ActsOnWhole w S) (holds (λ f. same_problem f.problem problem) o.failed) _ _ tt
-    (check_keeps (ActsOnWhole w S) (is_processing o.status) refusal.Conflict _ tt (λ stands. tt)))
-
-revoke_account_on_whole : (w : ℕ → Bool) (S : Tables) (n : ℕ) (x : AccountRow) → KeepsWhole w S (ask.Office (office.RevokeAccount n)) → account_on S n
-    ≡ Some x →
-    ActsOnWhole w S (revoke_account n x)
-revoke_account_on_whole w S n x h found =
+-- an account that is revoked ends with its authorizations
+revoked_on_whole : (w : ℕ → Bool) (S : Tables) (n : ℕ) (x : AccountRow) → KeepsWhole w S (ask.Office (office.RevokeAccount n)) → account_on S n ≡ Some x
+    → AreWhole w (λ r. n == r.account) S.authorizations
+revoked_on_whole w S n x h found =
     let here : (x.number == n) ≡ true = found_passes (λ y. y.number == n) S.accounts x found in
-    either_keeps (ActsOnWhole w S) (holds (λ e. is_revoked e.ending) x.ended) _ _ tt
-    (check_keeps (ActsOnWhole w S) (is_valid_account x.status) refusal.Conflict _ tt (λ stands.
     subst (λ j. AreWhole w (λ r. j == r.account) S.authorizations) (eqb-true x.number n here)
-    (each_found _ (λ y. y.number == n) S.accounts x h.own found here refl refl)))
+    (each_found _ (λ y. y.number == n) S.accounts x h.own found here refl refl)
+
+office_way : (w : ℕ → Bool) (S : Tables) (a : OfficeAsk) (v : Verdict) → IsNoWork a → KeepsWhole w S (ask.Office a) → way S a v → ActsOnWhole w S v
+office_way w S a v none h (way.report_shown n finding r found) = h.owner
+office_way w S a v none h (way.reported n finding r c outcome found there waits) = h.owner
+office_way w S a v none h (way.authorization_shown n r found) = h.authorization n (same_number n)
+office_way w S a v none h (way.authorization_revoked n r found live) = h.authorization n (same_number n)
+office_way w S a v none h (way.account_revoked n x found valid) = revoked_on_whole w S n x h found
+office_way w S a v none h way.challenge_work_listed = absurd none
+office_way w S a v none h way.order_work_listed = absurd none
+office_way w S a v none h _ = tt
 
 pub office_on_whole : (w : ℕ → Bool) (S : Tables) (a : OfficeAsk) → IsNoWork a → KeepsWhole w S (ask.Office a) → ActsOnWhole w S (office_verdict S a)
-office_on_whole w S office.Directory none h = tt
-office_on_whole w S (office.Report n finding) none h = report_on_whole w S n finding h.owner
-office_on_whole w S (office.Certify n bytes) none h = given_keeps (ActsOnWhole w S) (order_on S n) refusal.NotFound _ tt (λ o found. certify_on_whole w S n
-    bytes o)
-office_on_whole w S (office.FailOrder n problem) none h = given_keeps (ActsOnWhole w S) (order_on S n) refusal.NotFound _ tt (λ o found. fail_on_whole w S n
-    problem o)
-office_on_whole w S (office.RevokeAuthz n) none h =
-    let whole : w n ≡ true = h.authorization n (same_number n) in
-    given_keeps (ActsOnWhole w S) (authorization_on S n) refusal.NotFound _ tt (λ r found.
-    either_keeps (ActsOnWhole w S) (is_revoked_status r.status) _ _ whole
-    (check_keeps (ActsOnWhole w S) (is_live r.status) refusal.Conflict _ tt (λ stands. whole)))
-office_on_whole w S (office.RevokeAccount n) none h =
-    given_keeps (ActsOnWhole w S) (account_on S n) refusal.NotFound _ tt (λ x found. revoke_account_on_whole w S n x h found)
-office_on_whole w S office.ChallengeWork none h = absurd none
-office_on_whole w S office.OrderWork none h = absurd none
-office_on_whole w S (office.KeyOf n) none h = given_keeps (ActsOnWhole w S) (account_on S n) refusal.NotFound _ tt (λ x found. tt)
+office_on_whole w S a none h = office_way w S a (office_verdict S a) none h (office_judged S a)
 
--- an account that is the key's ends with its authorizations
-account_on_whole : (w : ℕ → Bool) (S : Tables) (s : Signed) (j : ℕ) (x : AccountRow) (p : AccountChange) → account_change s.payload ≡ Some p →
-    (changes_statuses (sent s (to.Account j)) ≡ true → AreWhole w (λ r. x.number == r.account) S.authorizations) → ActsOnWhole w S (account_verdict x.number p)
-account_on_whole w S s j x change.Read is own_whole = tt
-account_on_whole w S s j x change.Deactivate is own_whole = own_whole (ap (holds is_end) is)
-account_on_whole w S s j x (change.Update None) is own_whole = tt
-account_on_whole w S s j x (change.Update (Some contacts)) is own_whole = no_fault_keeps (ActsOnWhole w S) (contacts_fault contacts) _ (λ n. tt) tt
-
-authorization_on_whole : (w : ℕ → Bool) (S : Tables) (j : ℕ) (r : AuthorizationRow) (p : AuthorizationChange) → w j ≡ true →
-    ActsOnWhole w S (authorization_verdict j r p)
-authorization_on_whole w S j r authz_change.Read whole = whole
-authorization_on_whole w S j r authz_change.Deactivate whole = either_keeps (ActsOnWhole w S) (is_live r.status) _ _ whole whole
-
-challenge_on_whole : (w : ℕ → Bool) (S : Tables) (j : ℕ) (r : AuthorizationRow) (p : ChallengeChange) → AreWhole w (has_row j) S.authorizations →
-    ActsOnWhole w S (challenge_verdict j r p)
-challenge_on_whole w S j r chall_change.Read owner = owner
-challenge_on_whole w S j r chall_change.Answer owner = either_keeps (ActsOnWhole w S) (stands_open (λ c. is_pending_challenge c.status) r j) _ _ owner owner
-
-rekey_on_whole : (w : ℕ → Bool) (S : Tables) (n : ℕ) (key : List ℕ) (o : Option AccountRow) → ActsOnWhole w S (rekey_verdict n key o)
-rekey_on_whole w S n key o = grind arith
-
-order_on_whole : (w : ℕ → Bool) (S : Tables) (r : List ℕ) (n : ℕ) (ids : List Identifier) (ss : List Subproblem) → ActsOnWhole w S (order_of S r n ids ss)
-order_on_whole w S r n ids ss = grind arith
-
-target_on_whole : (w : ℕ → Bool) (S : Tables) (r : List ℕ) (x : AccountRow) (s : Signed) (t : Target) → KeepsWhole w S (sent s t) →
+-- an account that ends, ends with its authorizations
+account_way : (w : ℕ → Bool) (S : Tables) (r : List ℕ) (x : AccountRow) (s : Signed) (t : Target) (v : Verdict) → KeepsWhole w S (sent s t) →
     (changes_statuses (sent s t) ≡ true → asks_authorizations (sent s t) ≡ true → AreWhole w (λ r. x.number == r.account) S.authorizations) →
-    ActsOnWhole w S (target_verdict S r x.number s.payload t)
-target_on_whole w S r x s to.NewAccount h own_whole = given_keeps (ActsOnWhole w S) (new_account s.payload) refusal.Malformed _ tt (λ q is. tt)
-target_on_whole w S r x s to.KeyChange h own_whole =
-    given_keeps (ActsOnWhole w S) (key_change s.payload) refusal.Malformed _ tt (λ c is.
-    check_keeps (ActsOnWhole w S) (bytes_eq c.account (account_url S.meta.policy x.number) && holds (has_this_key S x.number) c.old_key) refusal.Malformed _ tt
-    (λ mine. given_keeps (ActsOnWhole w S) c.new_key refusal.BadPublicKey _ tt (λ key there. rekey_on_whole w S x.number key (account_with_key S key))))
-target_on_whole w S r x s to.NewOrder h own_whole =
-    given_keeps (ActsOnWhole w S) (new_order s.payload) refusal.Malformed _ tt (λ ids is.
-    check_keeps (ActsOnWhole w S) (has_length 1 most_names ids) refusal.Malformed _ tt (λ few. order_on_whole w S r x.number ids (subproblems ids)))
-target_on_whole w S r x s (to.Account j) h own_whole =
-    check_keeps (ActsOnWhole w S) (j == x.number) refusal.NotFound _ tt (λ here.
-    given_keeps (ActsOnWhole w S) (account_change s.payload) refusal.Malformed _ tt
-    (λ q is. account_on_whole w S s j x q is (λ ends. own_whole ends refl)))
-target_on_whole w S r x s (to.Orders j) h own_whole =
-    check_keeps (ActsOnWhole w S) (j == x.number) refusal.NotFound _ tt (λ here.
-    check_keeps (ActsOnWhole w S) (nothing s.payload) refusal.Malformed _ tt (λ none. tt))
-target_on_whole w S r x s (to.Order j) h own_whole =
-    given_keeps (ActsOnWhole w S) (own (λ (y : OrderRow). y.account) x.number (order_on S j)) refusal.NotFound _ tt (λ o is.
-    check_keeps (ActsOnWhole w S) (nothing s.payload) refusal.Malformed _ tt (λ none. tt))
-target_on_whole w S r x s (to.Finalize j) h own_whole =
-    given_keeps (ActsOnWhole w S) (own (λ (y : OrderRow). y.account) x.number (order_on S j)) refusal.NotFound _ tt (λ o is.
-    given_keeps (ActsOnWhole w S) (finalize s.payload) refusal.Malformed _ tt (λ q says.
-    check_keeps (ActsOnWhole w S) (is_ready o.status) refusal.OrderNotReady _ tt (λ stands.
-    given_keeps (ActsOnWhole w S) (csr_in q) refusal.BadCsr _ tt (λ csr spells. tt))))
-target_on_whole w S r x s (to.Cert j) h own_whole =
-    given_keeps (ActsOnWhole w S) (own (λ (y : OrderRow). y.account) x.number (order_on S j)) refusal.NotFound _ tt (λ o is.
-    check_keeps (ActsOnWhole w S) (nothing s.payload) refusal.Malformed _ tt (λ none.
-    given_keeps (ActsOnWhole w S) o.certified refusal.NotFound _ tt (λ c there. tt)))
-target_on_whole w S r x s (to.Authz j) h own_whole =
-    given_keeps (ActsOnWhole w S) (own (λ (y : AuthorizationRow). y.account) x.number (authorization_on S j)) refusal.NotFound _ tt (λ a is.
-    given_keeps (ActsOnWhole w S) (authorization_change s.payload) refusal.Malformed _ tt
-    (λ q says. authorization_on_whole w S j a q (h.authorization j (same_number j))))
-target_on_whole w S r x s (to.Chall j) h own_whole =
-    given_keeps (ActsOnWhole w S) (own (λ (y : AuthorizationRow). y.account) x.number (owner_on S j)) refusal.NotFound _ tt (λ a is.
-    given_keeps (ActsOnWhole w S) (challenge_change s.payload) refusal.Malformed _ tt (λ q says. challenge_on_whole w S j a q h.owner))
+    by S r x.number s.payload t v → ActsOnWhole w S v
+account_way w S r x s t v h own_whole (by.account_ended k here is) = own_whole (ap (holds is_end) is) refl
+account_way w S r x s t v h own_whole (by.authorization_read k a found) = h.authorization k (same_number k)
+account_way w S r x s t v h own_whole (by.authorization_ended k a found is live) = h.authorization k (same_number k)
+account_way w S r x s t v h own_whole (by.challenge_read k a found) = h.owner
+account_way w S r x s t v h own_whole (by.challenge_answered k a found is waits) = h.owner
+account_way w S r x s t v h own_whole _ = tt
 
--- by the account that the key has
-key_on_whole : (w : ℕ → Bool) (S : Tables) (r key : List ℕ) (s : Signed) (t : Target) → KeepsWhole w S (sent s t) →
-    ((x : AccountRow) → bytes_eq x.key key ≡ true → is_named_account (sent s t) x ≡ true) → (o : Option AccountRow) → account_with_key S key ≡ o →
-    ActsOnWhole w S (key_verdict S r key s.payload t o)
-key_on_whole w S r key s to.NewAccount h mine None found =
-    given_keeps (ActsOnWhole w S) (new_account s.payload) refusal.Malformed _ tt (λ q is.
-    check_keeps (ActsOnWhole w S) (not q.only_existing) refusal.AccountDoesNotExist _ tt (λ new_too.
-    no_fault_keeps (ActsOnWhole w S) (contacts_fault q.contacts) _ (λ n. tt) tt))
-key_on_whole w S r key s _ h mine None found = tt
-key_on_whole w S r key s t h mine (Some x) found =
-    check_keeps (ActsOnWhole w S) (is_valid_account x.status) refusal.Unauthorized _ tt (λ valid.
-    target_on_whole w S r x s t h
-    (each_found _ (λ a. bytes_eq a.key key) S.accounts x h.own found (mine x (found_passes (λ a. bytes_eq a.key key) S.accounts x found))))
+request_way : (w : ℕ → Bool) (S : Tables) (r : List ℕ) (s : Signed) (t : Target) (v : Verdict) → KeepsWhole w S (sent s t) → OfRequest S r s t v
+    → ActsOnWhole w S v
+request_way w S r s t v h (OfRequest.held u j key x is found valid way) =
+    account_way w S r x s t v h (each_found _ _ S.accounts x h.own found (or_left _ _ (held_key S s t key x is found))) way
+request_way w S r s t v h _ = tt
 
 pub signed_on_whole : (w : ℕ → Bool) (S : Tables) (r : List ℕ) (s : Signed) → KeepsWhole w S (ask.Signed s) → ActsOnWhole w S (signed_verdict S r s)
-signed_on_whole w S r s h = by s.key (λ x yes. or_left _ _ yes)
-  where
-    by : (key : Result (List ℕ) BadKey) → ((x : AccountRow) → is_key key x.key ≡ true → is_named_account (ask.Signed s) x ≡ true) →
-        ActsOnWhole w S (verdict_by S r s key)
-    by (Err why) mine = tt
-    by (Ok key) mine = key_on_whole w S r key s s.target h mine (account_with_key S key) refl
+signed_on_whole w S r s h = request_way w S r s s.target (signed_verdict S r s) h (request_judged S r s)
 
 -- ---- each ask
 
@@ -405,20 +298,13 @@ module _ (T S : Tables) (m : ℕ) (w : ℕ → Bool) (new : NewWhole w S) (past 
       wholly : (r : List ℕ) → ActsOnWhole w (swept m S) (signed_verdict (swept m T) r s)
       wholly r = subst (ActsOnWhole w (swept m S)) (h.judged r) (signed_on_whole w (swept m S) r s whole)
 
+  -- what is judged so is in whole
+  office_wholly : (a : OfficeAsk) → IsNoWork a → KeepsWhole w S (ask.Office a) → SettlesAs m a T S → ActsOnWhole w (swept m S) (office_verdict (swept m T) a)
+  office_wholly a none kept h = subst (ActsOnWhole w (swept m S)) h.judged (office_on_whole w (swept m S) a none (swept_on_whole w S m (ask.Office a) kept))
+
   settles_trimmed : (a : OfficeAsk) → IsNoWork a → KeepsWhole w S (ask.Office a) → SettlesAs m a T S → SettlesAs m a T (trimmed w S)
   settles_trimmed a none kept h =
-      record {
-        judged = ap (λ U. office_verdict U a) (swept_trimmed w m S) ∙ office_trimmed w (swept m S) a whole ∙ h.judged;
-        verdict = carried_trimmed (office_verdict (swept m T) a) wholly h.verdict;
-        records = recorded_trimmed w m S (entries_of (office_verdict (swept m T) a)) new past
-            (verdict_touches w m (swept m S) (office_verdict (swept m T) a) wholly) ∙ h.records;
-      }
-    where
-      whole : KeepsWhole w (swept m S) (ask.Office a)
-      whole = swept_on_whole w S m (ask.Office a) kept
-
-      wholly : ActsOnWhole w (swept m S) (office_verdict (swept m T) a)
-      wholly = subst (ActsOnWhole w (swept m S)) h.judged (office_on_whole w (swept m S) a none whole)
+      search (rules, swept_trimmed, swept_on_whole, office_trimmed, office_wholly, carried_trimmed, recorded_trimmed, verdict_touches)
 
 -- the lists of work apart
 abbrev pub IsNoList : Ask → Type 0

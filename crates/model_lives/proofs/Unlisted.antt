@@ -1,33 +1,26 @@
 -- A request that shows orders without what they list: a part may lack that, but for what falls.
-use Rattle.std.proofs.Common.{◌≡◌, ℕ, List, [], ◌∷◌, ◌++◌, map, filter, Option, Some, None, refl, sym, ap, ◌∙◌, true, false, Bool, cond, not, Result, Ok}
-use Rattle.std.proofs.Common.{Err, arith, rules}
+use Rattle.std.proofs.Common.{◌≡◌, ℕ, List, [], ◌∷◌, ◌++◌, map, filter, Option, None, refl, sym, ap, ◌∙◌, true, false, Bool, cond, not, arith, rules}
 use Rattle.std.proofs.lemmas.Bool.{or_left}
-use Rattle.std.specs.Prelude.{◌==◌, ◌&&◌, ◌||◌, bytes_eq, find, nat_lt}
+use Rattle.std.specs.Prelude.{◌==◌, ◌&&◌, ◌||◌, find, nat_lt}
 use Rattle.desk_model.specs.Change.{all_changes, changes, moved_rows, order_differs, recorded_changes, sweep_changes}
-use Rattle.desk_model.specs.Derived.{authorization_numbered, numbers_of, restated_order}
 use Rattle.desk_model.specs.Effect.{authorizations_after, effect, effects, falls, is_live_order, is_overdue, lasts, noted_order, swept, touches_order}
-use Rattle.desk_model.specs.Kept.{CoversSweep, EachOf, IsClosed, Kept, restricted}
-use Rattle.desk_model.specs.Rules.{key_verdict, nothing, own, signed_verdict, target_verdict}
-use Rattle.desk_model.specs.declared.rows.Change.TheVariants.{PutAuthorization, PutMeta, PutOrder, RemoveNonce}
 use Rattle.desk_model.specs.declared.verdict.Verdict.TheVariants.{Refused as refused, KeyTaken as key_taken, Answers as answers}
-use Rattle.desk_model.specs.{Account.is_valid as is_valid_account, Decide.entries_of, Lookup.holds, Shown.reply_of, Tables.Tables, Asked.asks_orders}
-use Rattle.desk_model.specs.{Touched.is_named_account, Questions.account_with_key, Questions.order_on, declared.call.BadKey.BadKey, declared.call.Signed.Signed}
-use Rattle.desk_model.specs.{declared.call.Target.Target, declared.entry.Entry.Entry, declared.rows.AccountRow.AccountRow}
-use Rattle.desk_model.specs.{declared.rows.AuthorizationRow.AuthorizationRow, declared.rows.OrderRow.OrderRow, declared.verdict.Verdict.Verdict}
-use Rattle.desk_model.specs.{declared.entry.Entry.TheVariants.Issued as issued, declared.entry.Entry.TheVariants.Spent as spent}
+use Rattle.desk_model.specs.{Derived.authorization_numbered, declared.call.Target.Target, declared.rows.AccountRow.AccountRow, declared.rows.OrderRow.OrderRow}
+use Rattle.desk_model.specs.{Derived.numbers_of, Derived.restated_order, Rules.signed_verdict, Decide.entries_of, Asked.asks_orders, declared.entry.Entry.Entry}
+use Rattle.desk_model.specs.{Kept.CoversSweep, Kept.EachOf, Kept.IsClosed, Kept.Kept, Kept.restricted, Lookup.holds, Shown.reply_of, Tables.Tables}
+use Rattle.desk_model.specs.{declared.rows.Change.TheVariants.PutAuthorization, declared.call.Signed.Signed, declared.entry.Entry.TheVariants.Issued as issued}
+use Rattle.desk_model.specs.{declared.rows.Change.TheVariants.PutMeta, declared.rows.Change.TheVariants.PutOrder, declared.rows.Change.TheVariants.RemoveNonce}
+use Rattle.desk_model.specs.{declared.rows.AuthorizationRow.AuthorizationRow, declared.verdict.Verdict.Verdict, declared.entry.Entry.TheVariants.Spent as spent}
+use Rattle.model_laws.specs.Ordered.{IsOrdered}
+use Rattle.model_laws.proofs.{Basics.each, Basics.list_any-same, Chain.all_changes_local, SweptParts.swept_closed, Plain.nonces_covered, Plain.nothing_touched}
+use Rattle.model_laws.proofs.{Basics.each_all, Finds.each_found, Finds.found_passes, Local.filter_part, Local.find_kept, Local.swept_alike, Plain.covers_issued}
+use Rattle.model_lives.proofs.{Judged.OfAccount, Judged.OfRequest, Judged.held_key, Judged.request_judged, Judged.sent, Between.bare, Between.bare_ordered}
+use Rattle.model_lives.proofs.{Between.carries_by, Between.open_kept, Between.swept_bare, Grown.KeepsNamed, Grown.grown_closed, Lists.filter_same}
+use Rattle.model_lives.proofs.{Lists.same_number, Ready.swept_names, Replies.certificate_shown, Replies.orders_shown, Verdicts.nonce_same, Verdicts.signed_same}
+use Rattle.model_lives.specs.{AnswersAs.CarriesOutAs, AnswersAs.PassesAs, MinimalPart.target_needs_listed}
 use Rattle.desk_model.specs.declared.call.Ask.TheVariants as ask
-use Rattle.desk_model.specs.declared.call.Target.TheVariants as to
-use Rattle.desk_model.specs.declared.refusal.Refusal.TheVariants as refusal
 use Rattle.desk_model.specs.declared.status.AuthzStatus.TheVariants as authz
 use Rattle.desk_model.specs.declared.status.OrderStatus.TheVariants as order
-use Rattle.model_laws.specs.Ordered.{IsOrdered}
-use Rattle.model_laws.proofs.{Basics.each, Basics.each_all, Basics.list_any-same, Chain.all_changes_local, SweptParts.swept_closed, Finds.each_found}
-use Rattle.model_laws.proofs.{Finds.found_passes, Local.filter_part, Local.find_kept, Local.swept_alike, Plain.covers_issued, Plain.nonces_covered}
-use Rattle.model_laws.proofs.{Plain.nothing_touched}
-use Rattle.model_lives.proofs.{Steps.check_keeps, Steps.given_keeps, Between.bare, Between.bare_ordered, Between.carries_by, Between.open_kept}
-use Rattle.model_lives.proofs.{Between.swept_bare, Grown.KeepsNamed, Grown.grown_closed, Lists.filter_same, Lists.same_number, Ready.swept_names, Walks.sent}
-use Rattle.model_lives.proofs.{Replies.certificate_shown, Replies.orders_shown, Verdicts.is_key, Verdicts.nonce_same, Verdicts.signed_same, Verdicts.verdict_by}
-use Rattle.model_lives.specs.{AnswersAs.CarriesOutAs, AnswersAs.PassesAs, MinimalPart.target_needs_listed}
 
 -- ---- what falls
 
@@ -150,39 +143,24 @@ IsShown k S (answers what) = reply_of (restricted k S) what ≡ reply_of S what
 IsShown k S _ = ⊥
 
 -- the list of an account's orders, and a certificate
-target_shown : (k : Kept) (S : Tables) (r : List ℕ) (x : AccountRow) (s : Signed) (t : Target) → target_needs_listed t ≡ false → KeepsNamed k S (sent s t) →
-    EachOf (λ o. asks_orders (sent s t) ≡ true → (o.account == x.number) ≡ true → k.orders o.number ≡ true) S.orders →
-    IsShown k S (target_verdict S r x.number s.payload t)
-target_shown k S r x s (to.Orders j) e named owned =
-    check_keeps (IsShown k S) (j == x.number) refusal.NotFound _ tt (λ here.
-    check_keeps (IsShown k S) (nothing s.payload) refusal.Malformed _ tt (λ none.
-    orders_shown k S x.number (each _ _ S.orders (λ o f h. f refl h) owned)))
-target_shown k S r x s (to.Cert j) e named owned =
-    given_keeps (IsShown k S) (own (λ (y : OrderRow). y.account) x.number (order_on S j)) refusal.NotFound _ tt (λ o is.
-    check_keeps (IsShown k S) (nothing s.payload) refusal.Malformed _ tt (λ none.
-    given_keeps (IsShown k S) o.certified refusal.NotFound _ tt (λ c there. certificate_shown k S j (named.order j (same_number j)))))
-target_shown k S r x s _ e named owned = cc
+account_way : (k : Kept) (S : Tables) (r : List ℕ) (x : AccountRow) (s : Signed) (t : Target) (v : Verdict) → target_needs_listed t ≡ false
+    → KeepsNamed k S (sent s t) → EachOf (λ o. asks_orders (sent s t) ≡ true → (o.account == x.number) ≡ true → k.orders o.number ≡ true) S.orders
+    → OfAccount S r x.number s.payload t v → IsShown k S v
+account_way k S r x s t v e named owned (OfAccount.turned_away u why ss) = tt
+account_way k S r x s t v e named owned (OfAccount.orders_listed j) = orders_shown k S x.number (each _ _ S.orders (λ o f h. f refl h) owned)
+account_way k S r x s t v e named owned (OfAccount.certificate_read j o c found there) = certificate_shown k S j (named.order j (same_number j))
+account_way k S r x s t v e named owned _ = cc
 
--- by the account that the key has
-key_shown : (k : Kept) (S : Tables) (r key : List ℕ) (s : Signed) (t : Target) → target_needs_listed t ≡ false → KeepsNamed k S (sent s t) →
-    ((x : AccountRow) → bytes_eq x.key key ≡ true → is_named_account (sent s t) x ≡ true) → (o : Option AccountRow) → account_with_key S key ≡ o →
-    IsShown k S (key_verdict S r key s.payload t o)
-key_shown k S r key s (to.Orders j) e named own None found = tt
-key_shown k S r key s (to.Cert j) e named own None found = tt
-key_shown k S r key s _ e named own None found = cc
-key_shown k S r key s t e named own (Some x) found =
-    check_keeps (IsShown k S) (is_valid_account x.status) refusal.Unauthorized _ tt (λ valid.
-    target_shown k S r x s t e named
-    (each_found _ (λ a. bytes_eq a.key key) S.accounts x named.orders found (own x (found_passes (λ a. bytes_eq a.key key) S.accounts x found))))
+request_way : (k : Kept) (S : Tables) (r : List ℕ) (s : Signed) (t : Target) (v : Verdict) → target_needs_listed t ≡ false → KeepsNamed k S (sent s t)
+    → OfRequest S r s t v → IsShown k S v
+request_way k S r s t v e named (OfRequest.unheld u why) = tt
+request_way k S r s t v e named (OfRequest.opened key q is none asked pass) = cc
+request_way k S r s t v e named (OfRequest.held u j key x is found valid way) =
+    account_way k S r x s t v e named (each_found _ _ S.accounts x named.orders found (or_left _ _ (held_key S s t key x is found))) way
 
 signed_shown : (k : Kept) (S : Tables) (r : List ℕ) (s : Signed) → target_needs_listed s.target ≡ false → KeepsNamed k S (ask.Signed s) →
     IsShown k S (signed_verdict S r s)
-signed_shown k S r s e named = by s.key (λ x h. or_left _ _ h)
-  where
-    by : (key : Result (List ℕ) BadKey) → ((x : AccountRow) → is_key key x.key ≡ true → is_named_account (ask.Signed s) x ≡ true) →
-        IsShown k S (verdict_by S r s key)
-    by (Err why) own = tt
-    by (Ok key) own = key_shown k S r key s s.target e named own (account_with_key S key) refl
+signed_shown k S r s e named = request_way k S r s s.target (signed_verdict S r s) e named (request_judged S r s)
 
 -- ---- the request
 

@@ -1,22 +1,21 @@
 -- A part that keeps what a request names gives the same verdict.
-use Rattle.std.proofs.Common.{◌≡◌, ℕ, List, [], Option, Some, None, refl, ap, true, false, Bool, Result, Ok, Err, arith}
+use Rattle.std.proofs.Common.{◌≡◌, ℕ, List, Option, Some, None, refl, ap, true, arith}
 use Rattle.std.specs.Prelude.{◌==◌, ◌&&◌, bytes_eq, option_and_then}
-use Rattle.desk_model.specs.declared.refusal.Refusal.TheVariants as refusal
 use Rattle.desk_model.specs.Questions.{account_on, account_with_key, authorization_on, order_on, owner_on}
-use Rattle.desk_model.specs.Rules.{if_spelled, key_verdict, office_verdict, open_nonce, open_nonce_in, report_verdict, signed_verdict, key_change_verdict}
-use Rattle.desk_model.specs.Rules.{rekey_verdict, target_verdict, names_asked, new_order_verdict}
+use Rattle.desk_model.specs.Rules.{if_spelled, key_verdict, open_nonce, rekey_verdict, names_asked}
+use Rattle.desk_model.specs.Rules.{own, office_verdict, open_nonce_in, report_verdict, signed_verdict, key_change_verdict, target_verdict, new_order_verdict}
 use Rattle.desk_model.specs.Asked.{carries, target_new_key, target_order, target_authorization, target_owner, target_names}
-use Rattle.desk_model.specs.{Document.account_url, Effect.has_row, Lookup.holds, Tables.Tables, Payload.key_change, Payload.new_order}
-use Rattle.desk_model.specs.{declared.payload.KeyChange.KeyChange, declared.payload.Identifier.Identifier, declared.verdict.Verdict.Verdict}
-use Rattle.desk_model.specs.{declared.call.OfficeAsk.OfficeAsk, declared.call.BadKey.BadKey, declared.call.Finding.Finding, declared.call.Signed.Signed}
-use Rattle.desk_model.specs.{declared.call.Target.Target, declared.objects.Nonce.Nonce, declared.rows.AccountRow.AccountRow}
-use Rattle.desk_model.specs.{declared.rows.AuthorizationRow.AuthorizationRow, declared.rows.OrderRow.OrderRow, Tokens.NonceText, Tokens.nonce_in, Kept.EachOf}
-use Rattle.desk_model.specs.{Kept.Kept, Kept.restricted, Verdict.check, Verdict.given, declared.verdict.Verdict.TheVariants.Refused as refused}
+use Rattle.desk_model.specs.{Document.account_url, declared.verdict.Verdict.Verdict, declared.call.OfficeAsk.OfficeAsk, declared.rows.AccountRow.AccountRow}
+use Rattle.desk_model.specs.{Effect.has_row, Lookup.holds, Tables.Tables, Kept.EachOf, Verdict.check, Verdict.given}
+use Rattle.desk_model.specs.{Payload.key_change, Payload.new_order, declared.call.Target.Target, Tokens.NonceText, Tokens.nonce_in, Kept.Kept, Kept.restricted}
+use Rattle.desk_model.specs.{declared.payload.KeyChange.KeyChange, declared.payload.Identifier.Identifier, declared.rows.AuthorizationRow.AuthorizationRow}
+use Rattle.desk_model.specs.{declared.call.Finding.Finding, declared.call.Signed.Signed, declared.objects.Nonce.Nonce, declared.rows.OrderRow.OrderRow}
+use Rattle.model_laws.proofs.{Local.find_kept, Local.find_part, Finds.each_found, Finds.found_passes, Basics.each}
+use Rattle.model_lives.proofs.{Grown.KeepsNamed, Lists.same_number, Reusing.KeepsAsked, Reusing.new_order_same}
+use Rattle.desk_model.specs.declared.refusal.Refusal.TheVariants as refusal
 use Rattle.desk_model.specs.declared.call.Ask.TheVariants as ask
 use Rattle.desk_model.specs.declared.call.OfficeAsk.TheVariants as office
 use Rattle.desk_model.specs.declared.call.Target.TheVariants as to
-use Rattle.model_laws.proofs.{Local.find_kept, Local.find_part, Finds.each_found, Finds.found_passes, Basics.each}
-use Rattle.model_lives.proofs.{Grown.KeepsNamed, Lists.same_number, Steps.own_same, Reusing.KeepsAsked, Reusing.new_order_same}
 
 -- ---- look-ups
 
@@ -77,6 +76,11 @@ asked_same : (k : Kept) (S : Tables) (r : List ℕ) (n : ℕ) (asked : Option (L
 unfolding given
 asked_same k S r n asked h = grind (arith, new_order_same)
 
+-- an object of an account, where the same is found
+pub own_same : {X : Type 0} (account : X → ℕ) (n : ℕ) (f : X → Verdict) (o p : Option X) → o ≡ p →
+    given (own account n o) refusal.NotFound f ≡ given (own account n p) refusal.NotFound f
+own_same account n f o p same = ap (λ x. given (own account n x) refusal.NotFound f) same
+
 target_same : (k : Kept) (S : Tables) (r : List ℕ) (n : ℕ) (p : List ℕ) (t : Target) → k.accounts n ≡ true →
     EachOf (λ x. target_new_key t p x.key ≡ true → k.accounts x.number ≡ true) S.accounts →
     ((j : ℕ) → target_order t j ≡ true → k.orders j ≡ true) →
@@ -102,13 +106,6 @@ keyed_same : (k : Kept) (S : Tables) (r key p : List ℕ) (t : Target) →
     EachOf (λ x. bytes_eq x.key key ≡ true → KeepsAsked k S.authorizations x.number (target_names t p)) S.accounts →
     key_verdict (restricted k S) r key p t (account_with_key (restricted k S) key) ≡ key_verdict S r key p t (account_with_key S key)
 keyed_same k S r key p t h f o a c w = grind (arith, key_same, found_passes, target_same, each_found)
-
--- the verdict by the request's key
-abbrev pub verdict_by : Tables → List ℕ → Signed → Result (List ℕ) BadKey → Verdict
-verdict_by T r s key = elim key [ Err e ↦ refused refusal.BadPublicKey [] | Ok mine ↦ key_verdict T r mine s.payload s.target (account_with_key T mine) ]
-
-abbrev pub is_key : Result (List ℕ) BadKey → List ℕ → Bool
-is_key key text = elim key [ Err e ↦ false | Ok mine ↦ bytes_eq text mine ]
 
 pub signed_same : (k : Kept) (S : Tables) (r : List ℕ) (s : Signed) → KeepsNamed k S (ask.Signed s) → signed_verdict (restricted k S) r s ≡ signed_verdict S r s
 signed_same k S r s h = grind (arith, each, keyed_same)

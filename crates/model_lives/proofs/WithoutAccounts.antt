@@ -1,11 +1,8 @@
 -- What the validator and the operator do to an authorization reads no account.
 use Rattle.std.proofs.Common.{◌≡◌, ◌≤◌, ◌+◌, ℕ, List, [], ◌∷◌, ◌++◌, map, refl, sym, ap, subst, ◌∙◌, Bool, arith}
-use Rattle.std.specs.Prelude.{◌&&◌}
 use Rattle.desk_model.specs.Change.{authorizations_put, changes, nonces_put, orders_put, recorded_changes, spent_by, sweep_changes}
-use Rattle.desk_model.specs.{Account.opened_by, Document.expected, Kept.EachOf, Legal.is_processing_challenge, Lookup.holds, Tables.Tables}
-use Rattle.desk_model.specs.{Authorization.is_live, Authorization.is_pending, Decide.entries_of, Decide.verdict_reply, Effect.effects, Effect.fresh_account}
-use Rattle.desk_model.specs.{Effect.noted_account, Effect.swept, Questions.authorization_on, Questions.challenge_of, Questions.owner_on}
-use Rattle.desk_model.specs.{Rules.is_revoked_status, Rules.office_verdict, Rules.outcome_of, Rules.same_outcome}
+use Rattle.desk_model.specs.{Account.opened_by, Kept.EachOf, Tables.Tables, Decide.entries_of, Decide.verdict_reply, Effect.effects, Effect.fresh_account}
+use Rattle.desk_model.specs.{Effect.noted_account, Effect.swept, Rules.office_verdict}
 use Rattle.desk_model.specs.declared.rows.Change.TheVariants.{PutAccount, PutAuthorization, PutMeta, PutNonce, PutOrder, RemoveNonce}
 use Rattle.desk_model.specs.declared.{call.OfficeAsk.OfficeAsk, entry.Ending.Ending, entry.Entry.Entry, entry.Outcome.Outcome, rows.AccountRow.AccountRow}
 use Rattle.desk_model.specs.declared.{rows.Change.Change, verdict.Verdict.Verdict, entry.Entry.TheVariants.AuthorizationEnded as authorization_ended}
@@ -13,10 +10,9 @@ use Rattle.desk_model.specs.declared.{entry.Entry.TheVariants.Reported as report
 use Rattle.desk_model.specs.declared.{verdict.Verdict.TheVariants.Moves as moves, verdict.Verdict.TheVariants.Refused as refused}
 use Rattle.desk_model.specs.declared.call.OfficeAsk.TheVariants as office
 use Rattle.desk_model.specs.declared.entry.Move.TheVariants as move
-use Rattle.desk_model.specs.declared.refusal.Refusal.TheVariants as refusal
 use Rattle.desk_model.specs.declared.verdict.Shows.TheVariants as show
 use Rattle.model_lives.specs.AnswersAs.{SettlesAs}
-use Rattle.model_lives.proofs.{Lists.filter_nothing, Steps.check_keeps, Steps.either_keeps, Steps.given_keeps}
+use Rattle.model_lives.proofs.{Judged.OfOffice, Judged.office_judged, Lists.filter_nothing}
 
 -- rows without accounts
 abbrev pub without_accounts : Tables → Tables
@@ -38,17 +34,13 @@ NeedsNoAccount (moves (move.AuthorizationEnded n ending)) = Unit {0}
 NeedsNoAccount _ = ⊥
 
 -- the verdict
-office_without_accounts : (S : Tables) (a : OfficeAsk) → IsOfAuthorization a → NeedsNoAccount (office_verdict S a)
-office_without_accounts S (office.Report n finding) of =
-    given_keeps NeedsNoAccount (owner_on S n) refusal.NotFound _ tt (λ a found.
-    given_keeps NeedsNoAccount (challenge_of n a) refusal.NotFound _ tt (λ c there.
-    given_keeps NeedsNoAccount (outcome_of c.kind (expected c) finding) refusal.Malformed _ tt (λ o is.
-    either_keeps NeedsNoAccount (holds (λ r. same_outcome r.outcome o) c.reported) _ _ tt
-    (check_keeps NeedsNoAccount (is_pending a.status && is_processing_challenge c.status) refusal.Conflict _ tt (λ stands. tt)))))
-office_without_accounts S (office.RevokeAuthz n) of =
-    given_keeps NeedsNoAccount (authorization_on S n) refusal.NotFound _ tt (λ r found.
-    either_keeps NeedsNoAccount (is_revoked_status r.status) _ _ tt (check_keeps NeedsNoAccount (is_live r.status) refusal.Conflict _ tt (λ stands. tt)))
-office_without_accounts S _ of = absurd of
+office_way : (S : Tables) (a : OfficeAsk) (v : Verdict) → IsOfAuthorization a → OfOffice S a v → NeedsNoAccount v
+office_way S a v of (OfOffice.declined b why) = tt
+office_way S a v of (OfOffice.report_shown n finding r found) = tt
+office_way S a v of (OfOffice.reported n finding r c outcome found there waits) = tt
+office_way S a v of (OfOffice.authorization_shown n r found) = tt
+office_way S a v of (OfOffice.authorization_revoked n r found live) = tt
+office_way S a v of _ = absurd of
 
 same_verdict : (S : Tables) (a : OfficeAsk) → IsOfAuthorization a → office_verdict (without_accounts S) a ≡ office_verdict S a
 same_verdict S a h = grind arith
@@ -117,4 +109,4 @@ settles_without_accounts T S m a of h =
     v = office_verdict (swept m T) a
 
     is : NeedsNoAccount v
-    is = office_without_accounts (swept m T) a of
+    is = office_way (swept m T) a v of (office_judged (swept m T) a)

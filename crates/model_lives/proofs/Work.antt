@@ -3,16 +3,11 @@ use Rattle.std.proofs.Common.{◌≡◌, ℕ, max, List, [], ◌∷◌, ◌++◌
 use Rattle.std.proofs.lemmas.Bool.{and_from}
 use Rattle.std.specs.{Prelude.◌==◌, Prelude.◌&&◌, Prelude.codes, List.flat_map, List.list_any}
 use Rattle.serde_json.specs.Data.{Data, number, string, unsigned}
-use Rattle.desk_model.specs.Document.{bytes_of, challenge_work, order_work, order_work_document, work_of}
-use Rattle.desk_model.specs.Kept.{EachOf, IsClosed, Kept, restricted}
-use Rattle.desk_model.specs.{Asked.asks_orders, Derived.numbers_of, Names.shown_name, Order.is_processing, Tables.Tables, Touched.lists, Tokens.base64url}
-use Rattle.desk_model.specs.{declared.call.Ask.Ask, declared.call.Call.Call, declared.call.OfficeAsk.OfficeAsk, declared.rows.AuthorizationRow.AuthorizationRow}
-use Rattle.desk_model.specs.{declared.rows.OrderRow.OrderRow, declared.verdict.Shows.Shows, declared.verdict.Verdict.TheVariants.Answers as answers}
-use Rattle.desk_model.specs.{Effect.swept, Effect.swept_authorization, Json.document, Json.list, Shown.ok, Shown.reply_of}
-use Rattle.desk_model.specs.declared.call.Ask.TheVariants as ask
-use Rattle.desk_model.specs.declared.call.OfficeAsk.TheVariants as office
-use Rattle.desk_model.specs.declared.verdict.Listing.TheVariants as listing
-use Rattle.desk_model.specs.declared.verdict.Shows.TheVariants as show
+use Rattle.desk_model.specs.{Document.bytes_of, Document.work_of, Kept.restricted, Asked.asks_orders, Derived.numbers_of, Names.shown_name, Tokens.base64url}
+use Rattle.desk_model.specs.{Document.challenge_work, declared.rows.AuthorizationRow.AuthorizationRow, declared.verdict.Verdict.TheVariants.Answers as answers}
+use Rattle.desk_model.specs.{Document.order_work, Order.is_processing, declared.call.Ask.Ask, declared.call.Call.Call, Effect.swept, Effect.swept_authorization}
+use Rattle.desk_model.specs.{Document.order_work_document, declared.call.OfficeAsk.OfficeAsk, declared.rows.OrderRow.OrderRow, declared.verdict.Shows.Shows}
+use Rattle.desk_model.specs.{Kept.EachOf, Kept.IsClosed, Kept.Kept, Tables.Tables, Touched.lists, Json.document, Json.list, Shown.ok, Shown.reply_of}
 use Rattle.model_laws.specs.Ordered.{IsOrdered}
 use Rattle.model_laws.proofs.Basics.{each, each_all, each_both, each-map, map-each}
 use Rattle.model_laws.proofs.{Local.filter_part, Local.swept_part, SweptParts.swept_closed}
@@ -26,6 +21,10 @@ use Rattle.model_lives.proofs.{Enough.answers_at, Enough.restricted_ordered, Few
 use Rattle.model_lives.proofs.{Grown.grown, Grown.grown_closed, Grown.grown_part, Listed.KeepsListed, Replies.rows_same, Walks.IsNoWork}
 use Rattle.model_lives.proofs.{TrimmedVerdicts.IsNoList, ListedAlone.all_needed, ListedAlone.needed_pass, Needed.needed, Needed.needed_answers}
 use Rattle.model_lives.proofs.{Needed.needed_cut, Lists.each_member, Lists.filter_nothing, Lists.filter_same, Lists.same_number}
+use Rattle.desk_model.specs.declared.call.Ask.TheVariants as ask
+use Rattle.desk_model.specs.declared.call.OfficeAsk.TheVariants as office
+use Rattle.desk_model.specs.declared.verdict.Listing.TheVariants as listing
+use Rattle.desk_model.specs.declared.verdict.Shows.TheVariants as show
 
 -- ---- parts are enough
 

@@ -18,13 +18,12 @@ pub work_loaded : (T : Tables) (numbers : List ℕ) → IsOrdered T → AreNumbe
     puts of_authorization (flat_map (authorizations_numbered T) numbers) [] ≡ filter has_work T.authorizations
 work_loaded T numbers h same =
     found_table of_authorization has_work 1 T.authorizations _ h.authorizations.0
-    (found_same of_authorization _ has_work T.authorizations _
+    (found_same (authorizations_at T h numbers)
     (each _ _ T.authorizations (λ r e. same (λ j. r.number == j) ∙ owner_has_work T r.number ∙ e)
-    (numbered of_authorization has_work 1 T.authorizations h.authorizations.0))
-    (authorizations_at T h numbers))
+    (numbered of_authorization has_work 1 T.authorizations h.authorizations.0)))
 
 processing_found : (T : Tables) → IsOrdered T → IsFound of_order (λ o. is_processing o.status) T.orders (orders_processing T)
-processing_found T h = found_filter of_order (λ o. is_processing o.status) 1 T.orders h.orders.0
+processing_found T h = found_filter h.orders.0
 
 -- the orders that are found, as a table
 pub processing_loaded : (T : Tables) → IsOrdered T → puts of_order (orders_processing T) [] ≡ orders_processing T

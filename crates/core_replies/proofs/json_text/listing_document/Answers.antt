@@ -1,11 +1,8 @@
-use Rattle.std.proofs.Common.{◌∷◌, [], arith}
+use Rattle.std.proofs.Common.{◌∷◌, []}
 use Rattle.std.specs.List.{flat_map}
 use Rattle.desk_model.specs.Json.{document, list}
 use Rattle.core_replies.proofs.Writing.{written_text}
 use Rattle.core_replies.proofs.json_text.listing_document.Goals as goal
-
-pub document_of-requires : goal.document_of-requires
-document_of-requires g c = grind arith
 
 pub returns : goal.returns
 returns g c =

@@ -1,10 +1,6 @@
 use Rattle.desk_model.specs.Json.{document}
 use Rattle.core_replies.proofs.Writing.{written_text}
 use Rattle.core_replies.proofs.json_text.shown_document.Goals as goal
-use Rattle.std.proofs.Common.{arith}
-
-pub document_of-requires : goal.document_of-requires
-document_of-requires g c = grind arith
 
 pub returns : goal.returns
 returns g c =

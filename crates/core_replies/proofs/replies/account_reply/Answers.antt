@@ -1,9 +1,5 @@
 use Rattle.core_replies.proofs.PlainDocuments.{account_plain}
 use Rattle.core_replies.proofs.replies.account_reply.Goals as goal
-use Rattle.std.proofs.Common.{rules}
 
 pub shown_document-requires : goal.shown_document-requires
 shown_document-requires c = account_plain c.args.policy.now c.args.row.now
-
-pub returns : goal.returns
-returns c T same = search rules

@@ -1,4 +1,4 @@
-use Rattle.std.proofs.Common.{◌∷◌, [], ap, ◌∙◌, arith, rules}
+use Rattle.std.proofs.Common.{◌∷◌, [], ap, ◌∙◌}
 use Rattle.desk_model.specs.declared.entry.Entry.TheVariants.{Issued as issued, Spent as spent}
 use Rattle.desk_model.specs.{Change.recorded_changes, Decide.entries_of}
 use Rattle.core_changes.proofs.Moving.{untouched_nonces}
@@ -15,12 +15,3 @@ returns-clause-changes c =
     c.in_ok-recording.ensures.recorded)
     ∙ ap (λ r. recorded_changes c.args.moment c.args.book.now (spent c.args.serial ∷ issued r ∷ entries_of c.args.verdict)) c.in_ok-recording.ensures.bytes.0)
     c.decision_of.ensures.changes
-
-pub returns-clause-reply : goal.returns-clause-reply
-returns-clause-reply c = grind arith
-
-pub returns-clause-bytes : goal.returns-clause-bytes
-returns-clause-bytes c = ok_so c.decision_of.result (λ o answered. c.in_ok-recording.ensures.bytes.1) c.decision_of.ensures.reply
-
-pub returns-clause-fault : goal.returns-clause-fault
-returns-clause-fault c = search rules

@@ -5,6 +5,3 @@ use Rattle.std.proofs.Common.{arith}
 
 pub act_without_nonce-requires-clause-numbers : goal.act_without_nonce-requires-clause-numbers
 act_without_nonce-requires-clause-numbers c = grind (arith, (no_numbers c.args.book.now.meta.counters c.args.ask.now (swept c.args.moment c.args.book.now)))
-
-pub returns : goal.returns
-returns c = grind arith

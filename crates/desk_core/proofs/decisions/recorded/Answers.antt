@@ -1,5 +1,5 @@
-use Rattle.std.proofs.Common.{[], ap, sym, ◌∙◌, arith}
-use Rattle.desk_model.specs.{Change.recorded_changes}
+use Rattle.std.proofs.Common.{[], ap, sym, ◌∙◌}
+use Rattle.desk_model.specs.Change.{recorded_changes}
 use Rattle.desk_core.proofs.ActingRows.{same_entries}
 use Rattle.core_changes.proofs.Moving.{untouched_none}
 use Rattle.core_replies.proofs.Results.{ok_so}
@@ -14,6 +14,3 @@ returns-clause-changes c =
     (untouched_none c.args.moment c.args.book.now) c.in_ok-recording.ensures.recorded))
     ∙ ap (recorded_changes c.args.moment c.args.book.now) (sym is))
     c.decision_of.ensures.changes
-
-pub returns-clause-reply : goal.returns-clause-reply
-returns-clause-reply c = grind arith

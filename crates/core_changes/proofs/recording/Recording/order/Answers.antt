@@ -1,4 +1,4 @@
-use Rattle.std.proofs.Common.{rules, ◌+◌, ◌++◌, ◌∷◌, [], append_assoc}
+use Rattle.std.proofs.Common.{rules, ◌++◌, ◌∷◌, [], append_assoc}
 use Rattle.desk_model.specs.declared.entry.Entry.TheVariants.{Ordered as ordered}
 use Rattle.core_changes.proofs.{Recordings.both_ok, Recordings.recorded_as, Moving.and_ordered}
 use Rattle.core_changes.proofs.recording.Recording.order.Goals as goal
