@@ -1,7 +1,8 @@
 -- The first challenge above a number, of whatever authorization.
-use Rattle.std.proofs.Common.{◌≡◌, ℕ, List, [], ◌∷◌, ◌++◌, map, filter, refl, ap, ◌∙◌, arith, rules}
+use Rattle.std.proofs.Common.{◌≡◌, ℕ, List, [], ◌∷◌, ◌++◌, map, filter, refl, ◌∙◌, arith, rules}
 use Rattle.std.proofs.{lemmas.List.map-append}
 use Rattle.std.specs.{Prelude.nat_lt, List.flat_map}
+use Rattle.sqlite_trees.proofs.ListLemmas.{filter-map}
 use Rattle.store_columns.specs.{Flat.challenge_rows, Flat.owned_by, declared.columns.Owned.Owned}
 use Rattle.model_laws.specs.Distinct.{Distinct}
 use Rattle.desk_model.specs.Derived.{insert_challenge, sorted_challenges}
@@ -9,16 +10,11 @@ use Rattle.desk_model.specs.{Change.put, Tables.Tables, declared.rows.Authorizat
 use Rattle.model_lives.specs.Above.{challenges_above, first_of}
 use Rattle.sql_tables.specs.{Layouts.challenge_layout, Sorted.sorted_by}
 use Rattle.sql_tables.proofs.{Sorting.IsApart, Sorting.each_sorted}
-use Rattle.sql_read.proofs.{Lists.filter-map}
+use Rattle.sql_read.proofs.UnderLemmas.{own_rows}
 
 -- ---- challenges without their owners
 
--- those of one authorization
-own_rows : (n : ℕ) (cs : List ChallengeRow) → map (λ (c : Owned ChallengeRow). c.row) (owned_by n cs) ≡ cs
-own_rows n [] = refl
-own_rows n (c ∷ cs) = ap (λ l. c ∷ l) (own_rows n cs)
-
--- those of all
+-- of all authorizations
 rows_owned : (rs : List AuthorizationRow) → map (λ (c : Owned ChallengeRow). c.row) (challenge_rows rs) ≡ flat_map (λ (r : AuthorizationRow). r.challenges) rs
 rows_owned [] = refl
 rows_owned (r ∷ rs) =

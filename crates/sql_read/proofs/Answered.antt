@@ -20,6 +20,7 @@ use Rattle.store_book.proofs.SortedLists.{same_sorted}
 use Rattle.model_laws.specs.Ordered.{Ascends}
 use Rattle.sql_tables.proofs.Keyed.{three}
 use Rattle.sql_read.specs.Selecting.{IsQuery}
+use Rattle.sql_read.proofs.Lists.{limited-map}
 
 -- ---- queries of one table
 
@@ -126,22 +127,26 @@ pub record IsOrderedAs (q : Query) (outputs : List Output) (rows : List Row) : T
   pub sorted : IsSorted (output_cmp q) ordered
   pub shown : rows ≡ map (λ (o : Output). o.1) ordered
 
--- the answer is cut from what is shown of the rows that match
-pub answers_from : {schema : Schema} (limit : Term) (text : List ℕ) (from : Join) (tests project : List Term) (order : List (Term × Key)) (params : Row)
-    → IsReadingFrom schema limit text from tests project order params → (old new : State) (outputs : List Output) (rows : List Row) → old.now.schema ≡ schema
-    → map (output (picked_from all_rows from tests project order)) (matches (overlay old.now.trees []) tests from (params ∷ [])) ≡ outputs
-    → Shown text params old new rows
-    → (all : List Row) × IsOrderedAs (picked_from all_rows from tests project order) outputs all × (rows ≡ limited (as_count (eval limit (params ∷ []))) all)
-answers_from {schema} limit text from tests project order params is old new outputs rows there match h =
-    let q = picked_from limit from tests project order in
-    let command = compiled_alone text _ is.means in
-    let read = reads_as text params old new schema there _ command.is command.plain command.unlisted rows h in
-    let a : IsAnswer q (overlay old.now.trees []) params rows = read.answer Null in
-    let kept : a.kept ≡ outputs = a.distinct ∙ ap (map (output q)) a.grouped ∙ match in (
-      map (λ (o : Output). o.1) a.ordered,
-      record { ordered = a.ordered; same = subst (λ os. IsPermutation os a.ordered) kept a.same; sorted = a.sorted; shown = refl },
-      a.shown,
-    )
+-- as many rows as a statement shows at most
+abbrev pub cut : {X : Type 0} → Term → Row → List X → List X
+cut limit params xs = limited (as_count (eval limit (params ∷ []))) xs
+
+module _ {schema : Schema} {limit : Term} {text : List ℕ} {from : Join} {tests project : List Term} {order : List (Term × Key)} {params : Row}
+    (is : IsReadingFrom schema limit text from tests project order params) (old new : State) (there : old.now.schema ≡ schema)
+    {outputs : List Output} (match : map (output (picked_from all_rows from tests project order)) (matches (overlay old.now.trees []) tests from (params ∷ []))
+    ≡ outputs) (rows : List Row) (h : Shown text params old new rows) where
+  -- the answer is cut from what is shown of the rows that match
+  pub answers_from : (all : List Row) × IsOrderedAs (picked_from all_rows from tests project order) outputs all × (rows ≡ cut limit params all)
+  answers_from =
+      let q = picked_from limit from tests project order in
+      let command = compiled_alone text _ is.means in
+      let read = reads_as text params old new schema there _ command.is command.plain command.unlisted rows h in
+      let a : IsAnswer q (overlay old.now.trees []) params rows = read.answer Null in
+      let kept : a.kept ≡ outputs = a.distinct ∙ ap (map (output q)) a.grouped ∙ match in (
+        map (λ (o : Output). o.1) a.ordered,
+        record { ordered = a.ordered; same = subst (λ os. IsPermutation os a.ordered) kept a.same; sorted = a.sorted; shown = refl },
+        a.shown,
+      )
 
 -- rows as the engine keeps them, of which the query tests and shows a part
 module _ {X Y : Type 0} (image : X → Row) (part : X → Y) (tree : ℕ) (tests project : List Term) (order : List (Term × Key)) (params : Row)
@@ -164,32 +169,14 @@ module _ {X Y : Type 0} (image : X → Row) (part : X → Y) (tree : ℕ) (tests
       go true more = λ i. shown_is x i ∷ more i
       go false more = more
 
-  -- the answer is cut from that of the rows which pass the model's test
-  pub answers_up_to : {schema : Schema} (limit : Term) (text : List ℕ) → IsReading schema limit text tree tests project order params
-      → ((db : Trees) → overlay db [] tree ≡ db tree)
-      → (old new : State) (xs : List X) (rows : List Row) → old.now.schema ≡ schema → old.now.trees tree ≡ map image xs
-      → Shown text params old new rows
-      → (all : List Row) × IsOrderedAs (picked tree tests project order) (map shown (filter test (map part xs))) all
-      × (rows ≡ limited (as_count (eval limit (params ∷ []))) all)
-  answers_up_to limit text is low old new xs rows there has h =
+  -- they are those which pass the model's test
+  pub matched : ((db : Trees) → overlay db [] tree ≡ db tree) → (db : Trees) (xs : List X) → db tree ≡ map image xs
+      → map (output (picked tree tests project order)) (matches (overlay db []) tests (one tree) (params ∷ [])) ≡ map shown (filter test (map part xs))
+  matched low db xs has =
       let q = picked tree tests project order in
-      let db = overlay old.now.trees [] in
-      let staged : matches db tests (one tree) (params ∷ []) ≡ map (λ r. params ∷ r ∷ []) (filter (passes tests params) (old.now.trees tree)) =
-      rw (low old.now.trees) (left tests params (old.now.trees tree)) in
-      answers_from limit text (one tree) tests project order params is old new (map shown (filter test (map part xs))) rows there
-      (ap (map (output q)) staged
-      ∙ ap (λ rs. map (output q) (map (λ r. params ∷ r ∷ []) (filter (passes tests params) rs))) has
-      ∙ outputs xs) h
-
-  -- of all rows
-  pub answers : {schema : Schema} (text : List ℕ) → IsReading schema all_rows text tree tests project order params →
-      ((db : Trees) → overlay db [] tree ≡ db tree)
-      → (old new : State) (xs : List X) (rows : List Row) → old.now.schema ≡ schema → old.now.trees tree ≡ map image xs
-      → Shown text params old new rows
-      → IsOrderedAs (picked tree tests project order) (map shown (filter test (map part xs))) rows
-  answers text is low old new xs rows schema has h =
-      let it = answers_up_to all_rows text is low old new xs rows schema has h in
-      subst (λ rs. IsOrderedAs (picked tree tests project order) (map shown (filter test (map part xs))) rs) (sym it.2) it.1
+      let staged : matches (overlay db []) tests (one tree) (params ∷ []) ≡ map (λ r. params ∷ r ∷ []) (filter (passes tests params) (db tree)) =
+      rw (low db) (left tests params (db tree)) in
+      ap (map (output q)) staged ∙ ap (λ rs. map (output q) (map (λ r. params ∷ r ∷ []) (filter (passes tests params) rs))) has ∙ outputs xs
 
 -- ---- in an order
 
@@ -218,7 +205,7 @@ strictly_shown q shown [] up = tt
 strictly_shown q shown (y ∷ ys) up = (all_map (λ o. output_cmp q (shown y) o ≡ Less) shown ys up.0, strictly_shown q shown ys up.1)
 
 -- outputs that are such rows in any order come in the one order of theirs that is strict
-pub shown_strictly : {Y : Type 0} (q : Query) (shown : Y → Output) (outputs : List Output) (ys : List Y) (rows : List Row)
+shown_strictly : {Y : Type 0} (q : Query) (shown : Y → Output) (outputs : List Output) (ys : List Y) (rows : List Row)
     → IsPermutation outputs (map shown ys) → IsStrictlySortedBy (λ x y. output_cmp q (shown x) (shown y)) ys → IsOrderedAs q outputs rows
     → rows ≡ map (λ y. (shown y).1) ys
 shown_strictly q shown outputs ys rows same up a =
@@ -228,21 +215,30 @@ shown_strictly q shown outputs ys rows same up a =
     (same_sorted (output_cmp q) (output_cmp_total q) a.ordered (map shown ys) a.sorted (strictly_shown q shown ys up) moved)
     ∙ map-map (λ (o : Output). o.1) shown ys
 
--- so do those of rows
-pub shown_in_order : {Y : Type 0} (q : Query) (shown : Y → Output) (zs ys : List Y) (rows : List Row) → IsPermutation zs ys
-    → IsStrictlySortedBy (λ x y. output_cmp q (shown x) (shown y)) ys → IsOrderedAs q (map shown zs) rows → rows ≡ map (λ y. (shown y).1) ys
-shown_in_order q shown zs ys rows same up a = shown_strictly q shown (map shown zs) ys rows (IsPermutation-map shown zs ys same) up a
+-- so a statement shows them, cut to as many as it shows at most
+pub shown_by : {schema : Schema} {limit : Term} {text : List ℕ} {from : Join} {tests project : List Term} {order : List (Term × Key)} {params : Row}
+    {Y : Type 0} → IsReadingFrom schema limit text from tests project order params → (old new : State) → old.now.schema ≡ schema → {outputs : List Output}
+    → map (output (picked_from all_rows from tests project order)) (matches (overlay old.now.trees []) tests from (params ∷ [])) ≡ outputs
+    → (shown : Y → Output) (ys : List Y) → IsPermutation outputs (map shown ys)
+    → IsStrictlySortedBy (λ x y. output_cmp (picked_from all_rows from tests project order) (shown x) (shown y)) ys
+    → (rows : List Row) → Shown text params old new rows → rows ≡ map (λ y. (shown y).1) (cut limit params ys)
+shown_by {limit = limit} {from = from} {tests = tests} {project = project} {order = order} {params = params} is old new there {outputs} match shown ys same
+    up rows h =
+    let it = answers_from is old new there match rows h in
+    it.2
+    ∙ ap (cut limit params) (shown_strictly (picked_from all_rows from tests project order) shown outputs ys it.0 same up it.1)
+    ∙ limited-map (λ y. (shown y).1) (as_count (eval limit (params ∷ []))) ys
 
 -- ---- by one number
 
-module _ {Y : Type 0} (tree : ℕ) (tests project : List Term) (place : ℕ) (key : Y → ℕ) (row : Y → Row) where
+module _ {Y : Type 0} (key : Y → ℕ) (row : Y → Row) where
   -- a row beside the number that it is ordered by
   abbrev pub beside : Y → Output
   beside y = (Int (pos (key y)) ∷ [], row y)
 
-  -- how the query orders two rows
+  -- how a query by a number orders two rows
   abbrev pub ranks : Y → Y → Ordering
-  ranks x y = output_cmp (picked tree tests project (by place ∷ [])) (beside x) (beside y)
+  ranks x y = output_cmp (picked 0 [] [] (by 0 ∷ [])) (beside x) (beside y)
 
   -- a lower number comes first
   below : (x y : Y) → key x < key y → ranks x y ≡ Less

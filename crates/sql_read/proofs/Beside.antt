@@ -1,54 +1,92 @@
--- Rows beside those that they belong to: each beside the one of the number that it tells.
-use Rattle.std.proofs.Common.{◌≡◌, ◌++◌, ◌+◌, ◌<◌, ℕ, Bool, true, false, cond, List, [], ◌∷◌, map, filter, flat_map, find, IsSome, Some}
+-- Rows beside those that they tell: each beside the one of that number.
+use Rattle.std.proofs.Common.{◌≡◌, ◌++◌, ◌+◌, ◌<◌, ℕ, Bool, true, false, cond, List, [], ◌∷◌, map, filter, flat_map, find, IsSome, Some, Ordering, Less}
 use Rattle.std.proofs.Common.{refl, sym, ap, subst, ◌∙◌, arith}
-use Rattle.std.proofs.lemmas.Bool.{eq-eqb, eqb-true}
-use Rattle.std.specs.Prelude.{◌==◌}
+use Rattle.std.proofs.lemmas.{Bool.eq-eqb, Bool.eqb-true, List.Concat.flat_map_single, List.map-id, Simd.map-map}
+use Rattle.std.specs.{Prelude.◌==◌, List.AllByRecursion, List.Sorted.IsStrictlySortedBy}
+use Rattle.sqlite_trees.proofs.ListLemmas.{flat_map_same_on, map-flat_map}
 use Rattle.store_columns.specs.{Flat.answer_key, Flat.bare_row, Flat.challenge_rows, Flat.owned_by, Flat.without_challenges, declared.columns.Owned.Owned}
+use Rattle.store_columns.specs.TextColumns.{HasTextAuthorization, HasTextChallenge}
 use Rattle.store_book.specs.Nesting.{child_rows}
 use Rattle.model_laws.specs.Ordered.{Ascends}
 use Rattle.model_laws.proofs.Basics.{each, each-append, each-map, each_all, each_both, less_differs, more_differs}
 use Rattle.model_laws.proofs.{Keeps.each-filter, RowLists.ascends_above}
 use Rattle.desk_model.specs.{Kept.EachOf, declared.rows.AuthorizationRow.AuthorizationRow, declared.rows.ChallengeRow.ChallengeRow}
-use Rattle.sql_read.proofs.JoinParts.{Joined}
+use Rattle.sql_read.specs.Spelled.{FitsJoined, joined_in}
+use Rattle.sql_read.proofs.JoinParts.{IsStoredJoined, Joined, JoinedColumns, joined-apart, joined_back, joined_columns, joined_fits}
+use Rattle.sql_read.proofs.{JoinParts.joined_params, TableFacts.RowFacts, TableFacts.facts_of}
+
+-- ---- an order of what a map gives
+
+-- what holds of each item
+all_of_map : {X Y : Type 0} (P : Y → Type 0) (f : X → Y) (xs : List X) → AllByRecursion P (map f xs) → AllByRecursion (λ x. P (f x)) xs
+all_of_map P f [] h = tt
+all_of_map P f (x ∷ xs) h = (h.0, all_of_map P f xs h.1)
+
+-- is one of what it is given
+strictly_of_map : {X Y : Type 0} (cmp : Y → Y → Ordering) (f : X → Y) (xs : List X) → IsStrictlySortedBy cmp (map f xs)
+    → IsStrictlySortedBy (λ x y. cmp (f x) (f y)) xs
+unfolding IsStrictlySortedBy
+strictly_of_map cmp f [] up = tt
+strictly_of_map cmp f (x ∷ xs) up = (all_of_map (λ y. cmp (f x) y ≡ Less) f xs up.0, strictly_of_map cmp f xs up.1)
 
 -- ---- pairs
 
-module _ {C : Type 0} (number : C → ℕ) (rows : List AuthorizationRow) where
-  -- a row beside each authorization of the number that it tells
-  abbrev pub beside : C → List (C × AuthorizationRow)
-  beside c = map (λ a. (c, a)) (filter (λ a. a.number == number c) rows)
+module _ {C A : Type 0} (number : C → ℕ) (key : A → ℕ) (rows : List A) where
+  -- the rows of the number that a row tells
+  abbrev pub told_by : C → List A
+  told_by c = filter (λ a. key a == number c) rows
+
+  -- it beside each of them
+  abbrev pub beside : C → List (C × A)
+  beside c = map (λ a. (c, a)) (told_by c)
 
   -- each of these rows
-  abbrev pub pairs : List C → List (C × AuthorizationRow)
+  abbrev pub pairs : List C → List (C × A)
   pairs cs = flat_map beside cs
 
-  -- there is one authorization of the number
+  -- what is made of each pair
+  pub map-pairs : {B : Type 0} (f : C × A → B) (cs : List C) → flat_map (λ c. flat_map (λ a. f (c, a) ∷ []) (told_by c)) cs ≡ map f (pairs cs)
+  map-pairs f cs =
+      flat_map_same_on _ _ (λ c. flat_map_single (λ a. f (c, a)) (told_by c) ∙ sym (map-map f (λ a. (c, a)) (told_by c))) cs
+      ∙ sym (map-flat_map f beside cs)
+
+  -- what stands beside each
+  pub seconds : (cs : List C) → map (λ x. x.1) (pairs cs) ≡ flat_map told_by cs
+  seconds cs =
+      map-flat_map (λ (x : C × A). x.1) beside cs
+      ∙ flat_map_same_on _ _ (λ c. map-map (λ (x : C × A). x.1) (λ a. (c, a)) (told_by c) ∙ map-id (told_by c)) cs
+
+  -- there is one row of the number
   abbrev pub HasOne : C → Type 0
-  HasOne c = (a : AuthorizationRow) × ((filter (λ r. r.number == number c) rows ≡ a ∷ []) × (a.number ≡ number c))
+  HasOne c = (a : A) × ((told_by c ≡ a ∷ []) × (key a ≡ number c))
 
   -- which is the one beside it
-  abbrev pub IsBeside : C × AuthorizationRow → Type 0
-  IsBeside x = (filter (λ r. r.number == number x.0) rows ≡ x.1 ∷ []) × (x.1.number ≡ number x.0)
+  abbrev pub IsBeside : C × A → Type 0
+  IsBeside x = (told_by x.0 ≡ x.1 ∷ []) × (key x.1 ≡ number x.0)
 
   -- so each comes once
   pub firsts : (cs : List C) → EachOf HasOne cs → map (λ x. x.0) (pairs cs) ≡ cs
   firsts [] h = refl
-  firsts (c ∷ cs) h =
-      ap (λ as'. map (λ (x : C × AuthorizationRow). x.0) (map (λ a. (c, a)) as' ++ pairs cs)) h.0.1.0 ∙ ap (λ l. c ∷ l) (firsts cs h.1)
+  firsts (c ∷ cs) h = ap (λ as'. map (λ (x : C × A). x.0) (map (λ a. (c, a)) as' ++ pairs cs)) h.0.1.0 ∙ ap (λ l. c ∷ l) (firsts cs h.1)
 
   pub each_beside : (cs : List C) → EachOf HasOne cs → EachOf IsBeside (pairs cs)
   each_beside [] h = tt
   each_beside (c ∷ cs) h =
       subst (λ as'. EachOf IsBeside (map (λ a. (c, a)) as' ++ pairs cs)) (sym h.0.1.0) ((h.0.1.0, h.0.1.1), each_beside cs h.1)
 
-  -- what is so of each row and of each authorization
-  pub each_pair : (P : C → Type 0) (Q : AuthorizationRow → Type 0) (cs : List C) → EachOf P cs → EachOf Q rows → EachOf (λ x. P x.0 × Q x.1) (pairs cs)
+  -- in the order of their first rows
+  pub pairs_strictly : (cmp : C → C → Ordering) (cs : List C) → EachOf HasOne cs → IsStrictlySortedBy cmp cs
+      → IsStrictlySortedBy (λ x y. cmp x.0 y.0) (pairs cs)
+  pairs_strictly cmp cs one up =
+      strictly_of_map cmp (λ (x : C × A). x.0) (pairs cs) (subst (IsStrictlySortedBy cmp) (sym (firsts cs one)) up)
+
+  -- what is so of each row and of each that it tells
+  pub each_pair : (P : C → Type 0) (Q : A → Type 0) (cs : List C) → EachOf P cs → EachOf Q rows → EachOf (λ x. P x.0 × Q x.1) (pairs cs)
   each_pair P Q [] h k = tt
   each_pair P Q (c ∷ cs) h k =
-      let found = filter (λ (a : AuthorizationRow). a.number == number c) rows in
-      each-append (λ (x : C × AuthorizationRow). P x.0 × Q x.1) (beside c) (pairs cs)
-      (each-map (λ (x : C × AuthorizationRow). P x.0 × Q x.1) (λ a. (c, a)) found
-      (each Q (λ a. P c × Q a) found (λ a q. (h.0, q)) (each-filter Q (λ a. a.number == number c) rows k)))
+      each-append (λ (x : C × A). P x.0 × Q x.1) (beside c) (pairs cs)
+      (each-map (λ (x : C × A). P x.0 × Q x.1) (λ a. (c, a)) (told_by c)
+      (each Q (λ a. P c × Q a) (told_by c) (λ a q. (h.0, q)) (each-filter Q (λ a. key a == number c) rows k)))
       (each_pair P Q cs h.1 k)
 
 -- ---- challenges
@@ -57,17 +95,23 @@ module _ {C : Type 0} (number : C → ℕ) (rows : List AuthorizationRow) where
 abbrev pub Pair : Type 0
 Pair = Owned ChallengeRow × AuthorizationRow
 
--- the number of its authorization
-abbrev pub owner : Owned ChallengeRow → ℕ
+-- the number of the row that one belongs to
+abbrev pub owner : {R : Type 0} → Owned R → ℕ
 owner c = c.owner
 
 -- there is one authorization of it
 abbrev pub IsOwned : List AuthorizationRow → Owned ChallengeRow → Type 0
-IsOwned rows = HasOne owner rows
+IsOwned rows = HasOne owner (λ a. a.number) rows
 
 -- the parts that stand in the three tables
 abbrev pub parts : Pair → Joined
 parts x = ((bare_row x.0, without_challenges x.1), answer_key x.0.row)
+
+-- what is known of them
+abbrev pub joined_facts : RowFacts Pair Joined JoinedColumns
+joined_facts =
+    facts_of parts joined_columns joined_in joined_params joined_back IsStoredJoined joined-apart
+    (λ c. HasTextChallenge c.0.0 × HasTextAuthorization c.0.1) FitsJoined joined_fits
 
 -- ---- the row of each number
 
@@ -111,10 +155,6 @@ module _ {P : Type 0} (number : P → ℕ) where
 
 -- ---- the row of each owner
 
--- there is one row of the number of the owner
-abbrev pub HasOneOwner : {P R : Type 0} → (P → ℕ) → List P → Owned R → Type 0
-HasOneOwner number ps c = (p : _) × ((filter (λ q. number q == c.owner) ps ≡ p ∷ []) × (number p ≡ c.owner))
-
 module _ {P R : Type 0} (number : P → ℕ) (children : P → List R) where
   -- what is so of all that belongs to each
   pub of_each : (Q : Owned R → Type 0) (ps : List P) → EachOf (λ p. EachOf (λ r. Q (record { owner = number p; row = r })) (children p)) ps
@@ -126,9 +166,9 @@ module _ {P R : Type 0} (number : P → ℕ) (children : P → List R) where
       (of_each Q ps h.1)
 
   -- so each has its owner
-  pub one_owner : (n : ℕ) (ps : List P) → Ascends number n ps → EachOf (HasOneOwner number ps) (child_rows number children ps)
+  pub one_owner : (n : ℕ) (ps : List P) → Ascends number n ps → EachOf (HasOne owner number ps) (child_rows number children ps)
   one_owner n ps up =
-      of_each (HasOneOwner number ps) ps (each _ _ ps (λ p one. each_all _ (children p) (λ r. (p, (one, refl)))) (each_one number n ps up))
+      of_each (HasOne owner number ps) ps (each _ _ ps (λ p one. each_all _ (children p) (λ r. (p, (one, refl)))) (each_one number n ps up))
 
 -- each challenge its authorization
 pub owners_there : (n : ℕ) (rows : List AuthorizationRow) → Ascends (λ a. a.number) n rows → EachOf (IsOwned rows) (challenge_rows rows)

@@ -1,26 +1,23 @@
 -- What the look-up of an authorization by one of its challenges finds: all its challenges, each beside it.
-use Rattle.std.proofs.Common.{◌≡◌, ◌≢◌, ◌==◌, ℕ, Bool, true, List, [], ◌∷◌, cond, map, filter, flat_map, inl, inr, refl, subst, sym, ap, ◌∙◌, append-nil, arith}
-use Rattle.std.proofs.{lemmas.Bool.eq-eqb, lemmas.Simd.map-map}
-use Rattle.sqlite.specs.{Held.Held, Held.state, Store.Ghosts}
-use Rattle.store_columns.specs.Flat.{answer_key, bare, challenge_rows, without_challenges}
-use Rattle.store_columns.specs.TextColumns.{HasTextAuthorization, HasTextChallenge}
-use Rattle.store_columns.specs.{Limits.IsStoredAuthorization, declared.columns.JoinedChallenge.JoinedChallenge, declared.columns.Owned.Owned}
-use Rattle.model_laws.proofs.{Basics.each, Basics.each_all, Basics.each_of_map, Basics.map-each, Keeps.each-filter}
+use Rattle.std.proofs.Common.{◌≡◌, ◌≢◌, ◌==◌, ℕ, pos, Bool, true, List, [], ◌∷◌, cond, map, filter, flat_map, inl, inr, refl, subst, sym, ap, ◌∙◌, append-nil}
+use Rattle.std.proofs.Common.{arith}
+use Rattle.std.proofs.lemmas.{Bool.eq-eqb, List.Sorted.IsPermutation-refl, Simd.map-map}
+use Rattle.sqlite.specs.{Held.Held, Held.state, Store.Ghosts, declared.types.Value.TheVariants.Int}
+use Rattle.store_columns.specs.{Flat.answer_key, Flat.bare, Flat.challenge_rows, Flat.without_challenges, declared.columns.JoinedChallenge.JoinedChallenge}
+use Rattle.store_columns.specs.declared.columns.Owned.{Owned}
+use Rattle.model_laws.proofs.{Basics.each, Basics.each_all, Basics.map-each, Keeps.each-filter}
 use Rattle.model_lives.specs.LookUps.{authorizations_numbered, owners_of}
 use Rattle.desk_model.specs.{Kept.EachOf, Tables.Tables, declared.rows.AuthorizationRow.AuthorizationRow, declared.rows.ChallengeRow.ChallengeRow}
 use Rattle.store_book.specs.IsBook.{IsStoredBook}
 use Rattle.sql_schema.specs.declared.challenges.TheConstants as chall
 use Rattle.sql_tables.specs.{Holds.Holds, Layouts.challenge_layout}
 use Rattle.sql_tables.proofs.Sorting.{each_sorted, filter_ascending, filter_number, sorted_rises}
-use Rattle.sql_read.specs.{Joined.gathered, Joined.joined_row, Joined.keyed_row, Looking.Finds, Queries.number, Under.HasItsChallenges, Spelled.FitsJoined}
-use Rattle.sql_read.specs.{Spelled.joined_in, declared.formats.Format.TheVariants.Second}
-use Rattle.sql_read.proofs.Beside.{IsOwned, owners_there, parts}
-use Rattle.sql_read.proofs.BesideRows.{IsAsked, companions, companions_shown, each_companion, one_asked}
-use Rattle.sql_read.proofs.JoinParts.{HasTextJoined, IsStoredJoined, IsStoredKeyed, beside_from, beside_project, beside_tests, by_other, joined-apart}
-use Rattle.sql_read.proofs.JoinParts.{joined_back, joined_columns, joined_fits, joined_params}
+use Rattle.sql_read.specs.{Joined.gathered, Joined.joined_row, Queries.number, Under.HasItsChallenges, declared.formats.Format.TheVariants.Second}
+use Rattle.sql_read.proofs.Beside.{IsOwned, joined_facts, owners_there, parts}
+use Rattle.sql_read.proofs.BesideRows.{IsAsked, companions, companions_match, companions_rise, each_companion, one_asked}
 use Rattle.sql_read.proofs.KeyedFound.{all_challenges, all_keys, challenges_there, keyed_stored, keyed_texts}
-use Rattle.sql_read.proofs.{Answered.all_rows, Failing.join_fails, FoundRows.finds_shown, JoinFound.waiting_of, KeptRows.authorizations_kept}
-use Rattle.sql_read.proofs.{LookUpReadings.beside_reading, TableFacts.authorization_facts, TableFacts.challenge_facts, TableFacts.columns}
+use Rattle.sql_read.proofs.{Answered.strictly, FoundRows.FindsIn, FoundRows.are_kept, FoundRows.finds_matched, JoinFound.waiting_of}
+use Rattle.sql_read.proofs.{KeptRows.authorizations_kept, LookUpReadings.beside_reading, TableFacts.authorization_facts, TableFacts.cells}
 use Rattle.sql_read.proofs.{UnderLemmas.authorizations_have, UnderLemmas.own_ascend, UnderLemmas.owners_are, WaitingChallenges.filter_turned}
 
 -- the challenges of the authorization that has the one of a number, each beside it
@@ -47,30 +44,8 @@ module _ {S : Type 0} (g : Ghosts S) (old : Held S) (T : Tables) (has : Holds (s
   all_owned =
       each_sorted challenge_layout.key (IsOwned T.authorizations) (challenge_rows T.authorizations) (owners_there 0 T.authorizations has.rising.authorizations)
 
-  -- they are found
-  pub beside_find : Finds g joined_in FitsJoined joined_columns IsStoredJoined (chall.SELECT_BESIDE.now, number n) old
-      (map parts (companions (all_challenges T) T.authorizations n))
-  beside_find =
-      let cs = all_challenges T in
-      let xs = companions cs T.authorizations n in
-      let authorizations = authorizations_kept _ T Second has in
-      finds_shown parts joined_columns IsStoredJoined joined_in joined_params joined_back joined-apart HasTextJoined FitsJoined joined_fits g
-      (chall.SELECT_BESIDE.now, number n) old xs
-      (each _ _ xs (λ x p. ((p.0.0.0, p.0.1), p.0.0.1))
-      (each_companion cs T.authorizations (λ c. IsStoredKeyed (keyed_row c)) (λ a. IsStoredAuthorization (without_challenges a)) n
-      (keyed_stored g old T has book) (each_of_map IsStoredAuthorization without_challenges T.authorizations (authorizations.stored book.stored))))
-      (each _ _ xs (λ x p. p.0)
-      (each_companion cs T.authorizations (λ c. HasTextChallenge (columns challenge_facts c)) (λ a. HasTextAuthorization (columns authorization_facts a)) n
-      (keyed_texts g old T has book) (each_of_map HasTextAuthorization (columns authorization_facts) T.authorizations (authorizations.texts book.texts))))
-      (λ new rows h.
-      companions_shown (state g old) (state g new) cs T.authorizations (all_keys T) n rows has.schema (challenges_there g old T has book) has.authorizations
-      all_owned h)
-      (λ may new e h.
-      join_fails all_rows chall.SELECT_BESIDE.now beside_from refl beside_tests beside_project by_other (number n) (beside_reading n) (state g old)
-      (state g new) has.schema e may h)
-
-  -- they are what the parts show
-  pub beside_parts : map joined_row (beside_rows T n) ≡ map parts (companions (all_challenges T) T.authorizations n)
+  -- the parts show them
+  beside_parts : map joined_row (beside_rows T n) ≡ map parts (companions (all_challenges T) T.authorizations n)
   beside_parts =
       let xs = companions (all_challenges T) T.authorizations n in
       map-map joined_row waiting_of xs
@@ -78,6 +53,20 @@ module _ {S : Type 0} (g : Ghosts S) (old : Held S) (T : Tables) (has : Holds (s
       (each _ _ xs (λ x it i. ((record { owner = sym it.1 i; row = bare x.0.row }, without_challenges x.1), answer_key x.0.row))
       (each_companion (all_challenges T) T.authorizations (λ _. Unit {0}) (λ _. Unit {0}) n (each_all _ (all_challenges T) (λ _. tt))
       (each_all _ T.authorizations (λ _. tt))))
+
+  -- they are found
+  pub beside_find : FindsIn joined_facts g (chall.SELECT_BESIDE.now, number n) old (map joined_row (beside_rows T n))
+  beside_find =
+      let cs = all_challenges T in
+      let xs = companions cs T.authorizations n in
+      let kept = are_kept authorization_facts (authorizations_kept _ T Second has) book in
+      subst (FindsIn joined_facts g (chall.SELECT_BESIDE.now, number n) old) (sym beside_parts) (finds_matched joined_facts g (beside_reading n) refl old has.schema
+      (companions_match _ cs (all_keys T) (challenges_there g old T has book) T.authorizations has.authorizations n) (λ x. Int (pos x.0.row.number) ∷ []) xs (
+        each _ _ xs (λ x p. ((p.0.0.0, p.0.1), p.0.0.1)) (each_companion cs T.authorizations _ _ n (keyed_stored g old T has book) kept.0),
+        each _ _ xs (λ x p. p.0) (each_companion cs T.authorizations _ _ n (keyed_texts g old T has book) kept.1),
+      ) (IsPermutation-refl _)
+      (strictly (λ x. x.0.row.number) (cells joined_facts) 0 xs
+      (companions_rise cs T.authorizations n (sorted_rises challenge_layout.key (challenge_rows T.authorizations)) all_owned)))
 
   -- the authorization of the one that has the number
   owner_found : (b : Owned ChallengeRow) (a : AuthorizationRow) → IsAsked (all_challenges T) T.authorizations n b a

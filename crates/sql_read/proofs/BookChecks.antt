@@ -5,10 +5,9 @@ use Rattle.std.specs.Prelude.{◌⊎◌, IsErr, IsTrue}
 use Rattle.sqlite.specs.{Effect.Database, Order.Row, Store.Ghosts, Held.Held, Held.state, State.HasCleanDisk, State.IsUnchanged, declared.error.Error.Error}
 use Rattle.store_columns.specs.declared.columns.FlatRows.{FlatRows}
 use Rattle.desk_model.specs.{Tables.Tables, declared.rows.Meta.Meta}
-use Rattle.sql_read.specs.BookShown.{Checks, FailsIn, HoldsIn}
-use Rattle.sql_read.specs.Failures.{FailsHere, HasTexts, IsMet, IsOutOfMemory, IsReadable, MayRead}
-use Rattle.sql_read.specs.{AllTables.FailsAtFirst, AllTables.FailsAtTable, Checking.ShowsTable, Only.ShowsBookRowsOnly, declared.formats.Format.Format}
-use Rattle.sql_read.specs.{declared.formats.Format.TheVariants.First, declared.formats.Format.TheVariants.Second}
+use Rattle.sql_read.specs.{BookShown.Checks, BookShown.FailsIn, BookShown.HoldsIn, Failures.FailsHere, Failures.HasTexts, Failures.MayRead, Checking.ShowsTable}
+use Rattle.sql_read.specs.{Failures.IsMet, Failures.IsOutOfMemory, Failures.IsReadable, AllTables.FailsAtFirst, AllTables.FailsAtTable, Only.ShowsBookRowsOnly}
+use Rattle.sql_read.specs.{declared.formats.Format.Format, declared.formats.Format.TheVariants.First, declared.formats.Format.TheVariants.Second}
 use Rattle.sql_read.proofs.{Failing.may_read_still, MetFaults.met_behind, Results.failed_as, Results.fails_then, Results.unchanged_after}
 use Rattle.sql_schema.specs.{Failing.IsFailure, Stays.Asks}
 use Rattle.sql_schema.proofs.StaysLemmas.{asks_then}
@@ -133,7 +132,7 @@ module _ {S : Type 0} (g : Ghosts S) where
       stopped (Err e) clean none = tt
 
 -- a table of which more is known
-pub table_as : {S C R : Type 0} {g : Ghosts S} {text : List ℕ} {spelled : Row → C} {write : R → C} {IsStored : R → Type 0} {db : Database}
+abbrev pub table_as : {S C R : Type 0} {g : Ghosts S} {text : List ℕ} {spelled : Row → C} {write : R → C} {IsStored : R → Type 0} {db : Database}
     {P Q : List R → Type 0}
     → (table : ShowsTable g text spelled write IsStored db P) → ((rows : List R) → P rows → Q rows) → ShowsTable g text spelled write IsStored db Q
 table_as table so = record { rows = table.rows; shown = table.shown; stored = table.stored; is = so table.rows table.is }

@@ -27,9 +27,9 @@ use Rattle.sql_schema.specs.{Stays.Asks, Schema.desk_schema}
 use Rattle.sql_schema.specs.declared.authorizations.TheConstants as authz
 use Rattle.sql_schema.specs.declared.nonces.TheConstants as nonce
 use Rattle.sql_schema.specs.declared.orders.TheConstants as ord
-use Rattle.sql_read.proofs.Answered.{IsOrderedAs, IsReading, answers_up_to, by, first_row, passes, picked}
+use Rattle.sql_read.proofs.Answered.{IsOrderedAs, IsReading, answers_from, by, first_row, matched, passes, picked}
 use Rattle.sql_read.proofs.LookUpReadings.{authorization_end_reading, is_equal, issue_reading, order_end_reading, text}
-use Rattle.sql_read.proofs.{Failing.query_fails, Lists.filter-all, LookUpFaults.of_memory, StatusTests.authorization_status_test, StatusTests.order_status_test}
+use Rattle.sql_read.proofs.{Failing.join_fails, Lists.filter-all, LookUpFaults.of_memory, StatusTests.authorization_status_test, StatusTests.order_status_test}
 use Rattle.sql_read.proofs.{Tests.eq_as, Tests.lt_as, Tests.text_test, TableColumns.order_status_at, TableColumns.authorization_status_at}
 
 -- ---- moments in their order
@@ -64,95 +64,87 @@ found_none ms found h k = search rules
 found_some : (ms : List ℕ) (found : Option ℕ) (m : ℕ) → option_map (λ n. pos n) found ≡ Some (pos m) → IsEarliest ms (Some m) → IsEarliest ms found
 found_some ms found m h k = grind arith
 
-module _ (tree : ℕ) (tests project : List Term) (place : ℕ) where
-  -- a query that orders by a column
-  abbrev query : Query
-  query = picked tree tests project (by place ∷ [])
+-- a query that orders by a number, of whatever table
+abbrev query : Query
+query = picked 0 [] [] (by 0 ∷ [])
 
-  -- it orders moments as the model does
-  ranks_as : (m n : ℕ) → output_cmp query (twice m) (twice n) ≡ three m n
-  ranks_as m n = ap (λ o. ordering_then o Equal) (value_cmp-Int (pos m) (pos n)) ∙ then_equal (three m n)
+-- it orders moments as the model does
+ranks_as : (m n : ℕ) → output_cmp query (twice m) (twice n) ≡ three m n
+ranks_as m n = ap (λ o. ordering_then o Equal) (value_cmp-Int (pos m) (pos n)) ∙ then_equal (three m n)
 
-  -- one that is not before another
-  not_before : (m n : ℕ) → is_lt (output_cmp query (twice n) (twice m)) ≡ false → m ≤ n
-  not_before m n h = let late : nat_lt n m ≡ false = sym (ap is_lt (ranks_as n m) ∙ lt_as n m) ∙ h in grind (arith, nat_tests)
+-- one that is not before another
+not_before : (m n : ℕ) → is_lt (output_cmp query (twice n) (twice m)) ≡ false → m ≤ n
+not_before m n h = let late : nat_lt n m ≡ false = sym (ap is_lt (ranks_as n m) ∙ lt_as n m) ∙ h in grind (arith, nat_tests)
 
-  -- each from this one on
-  each_from : (m : ℕ) (ms : List ℕ) → AllByRecursion (λ o. is_lt (output_cmp query o (twice m)) ≡ false) (map twice ms) → EachOf (λ n. m ≤ n) ms
-  each_from m [] h = tt
-  each_from m (n ∷ ns) h = (not_before m n h.0, each_from m ns h.1)
+-- each from this one on
+each_from : (m : ℕ) (ms : List ℕ) → AllByRecursion (λ o. is_lt (output_cmp query o (twice m)) ≡ false) (map twice ms) → EachOf (λ n. m ≤ n) ms
+each_from m [] h = tt
+each_from m (n ∷ ns) h = (not_before m n h.0, each_from m ns h.1)
 
-  -- the first of all in their order is the earliest
-  earliest_first : (ms : List ℕ) (m : ℕ) (os : List Output) → IsPermutation (map twice ms) (twice m ∷ os) → IsSorted (output_cmp query) (twice m ∷ os)
-      → IsEarliest ms (Some m)
-  earliest_first ms m os moved up =
-      let all : List Output = twice m ∷ os in
-      let far : All (λ o. is_lt (output_cmp query o (twice m)) ≡ false) all =
-      λ k d low. sorted_far (λ x y. is_lt (output_cmp query x y)) (ranks_by (output_cmp_total query) (λ o. o)) all up 0 k d zero-le low in
-      let same = λ (o : Output). is_eq (output_cmp query o (twice m)) in (
-        sym (list_any-same (λ n. same (twice n)) (λ n. n == m) ms (λ n. ap is_eq (ranks_as n m) ∙ eq_as n m))
-            ∙ sym (list_any-map same twice ms)
-            ∙ list_any-IsPermutation same (map twice ms) all moved
-            ∙ (λ i. (ap is_eq (ranks_as m m) ∙ eq_as m m ∙ eq-eqb m m refl) i || list_any same os),
-        each_from m ms
-            (all-permutation (λ o. is_lt (output_cmp query o (twice m)) ≡ false) all (map twice ms) (IsPermutation-sym (map twice ms) all moved)
-            (recursion_from_All (λ o. is_lt (output_cmp query o (twice m)) ≡ false) all far)),
-      )
+-- the first of all in their order is the earliest
+earliest_first : (ms : List ℕ) (m : ℕ) (os : List Output) → IsPermutation (map twice ms) (twice m ∷ os) → IsSorted (output_cmp query) (twice m ∷ os)
+    → IsEarliest ms (Some m)
+earliest_first ms m os moved up =
+    let all : List Output = twice m ∷ os in
+    let far : All (λ o. is_lt (output_cmp query o (twice m)) ≡ false) all =
+    λ k d low. sorted_far (λ x y. is_lt (output_cmp query x y)) (ranks_by (output_cmp_total query) (λ o. o)) all up 0 k d zero-le low in
+    let same = λ (o : Output). is_eq (output_cmp query o (twice m)) in (
+      sym (list_any-same (λ n. same (twice n)) (λ n. n == m) ms (λ n. ap is_eq (ranks_as n m) ∙ eq_as n m))
+          ∙ sym (list_any-map same twice ms)
+          ∙ list_any-IsPermutation same (map twice ms) all moved
+          ∙ (λ i. (ap is_eq (ranks_as m m) ∙ eq_as m m ∙ eq-eqb m m refl) i || list_any same os),
+      each_from m ms
+          (all-permutation (λ o. is_lt (output_cmp query o (twice m)) ≡ false) all (map twice ms) (IsPermutation-sym (map twice ms) all moved)
+          (recursion_from_All (λ o. is_lt (output_cmp query o (twice m)) ≡ false) all far)),
+    )
 
-  -- what is found in their order
-  earliest_in : (ms : List ℕ) (found : Option ℕ) (os : List Output) → IsPermutation (map twice ms) os → IsSorted (output_cmp query) os
-      → option_map (λ m. pos m) found ≡ first_number (first_of (map (λ (o : Output). o.1) os)) → IsEarliest ms found
-  earliest_in ms found [] moved up is =
-      found_none ms found is (none_of ms (all-permutation (λ _. ⊥) [] (map twice ms) (IsPermutation-sym (map twice ms) [] moved) tt))
-  earliest_in ms found (o ∷ os) moved up is =
-      let moment = (all-permutation IsMoment (map twice ms) (o ∷ os) moved (are_moments ms)).0 in
-      found_some ms found moment.0 (is ∙ ap (λ (p : Output). first_number (p.1 ∷ [])) moment.1)
-      (earliest_first ms moment.0 os (subst (λ p. IsPermutation (map twice ms) (p ∷ os)) moment.1 moved)
-      (subst (λ p. IsSorted (output_cmp query) (p ∷ os)) moment.1 up))
+-- what is found in their order
+earliest_in : (ms : List ℕ) (found : Option ℕ) (os : List Output) → IsPermutation (map twice ms) os → IsSorted (output_cmp query) os
+    → option_map (λ m. pos m) found ≡ first_number (first_of (map (λ (o : Output). o.1) os)) → IsEarliest ms found
+earliest_in ms found [] moved up is =
+    found_none ms found is (none_of ms (all-permutation (λ _. ⊥) [] (map twice ms) (IsPermutation-sym (map twice ms) [] moved) tt))
+earliest_in ms found (o ∷ os) moved up is =
+    let moment = (all-permutation IsMoment (map twice ms) (o ∷ os) moved (are_moments ms)).0 in
+    found_some ms found moment.0 (is ∙ ap (λ (p : Output). first_number (p.1 ∷ [])) moment.1)
+    (earliest_first ms moment.0 os (subst (λ p. IsPermutation (map twice ms) (p ∷ os)) moment.1 moved)
+    (subst (λ p. IsSorted (output_cmp query) (p ∷ os)) moment.1 up))
 
 -- ---- moments of a table
-
--- what is shown of each row is a moment
-all_moments : {X : Type 0} (end : X → ℕ) (xs : List X) → AllByRecursion IsMoment (map (λ x. twice (end x)) xs)
-all_moments end [] = tt
-all_moments end (x ∷ xs) = ((end x, refl), all_moments end xs)
 
 -- so the first is one
 begin_with_moment : (os : List Output) (rows : List Row) → AllByRecursion IsMoment os → rows ≡ first_of (map (λ (o : Output). o.1) os) → BeginWithMoment rows
 begin_with_moment [] rows all are = subst BeginWithMoment (sym are) tt
 begin_with_moment (o ∷ os) rows all are = subst BeginWithMoment (sym are) (all.0.0, ap (λ (p : Output). p.1) all.0.1)
 
-module _ {X : Type 0} (L : Layout X) (end : X → ℕ) (text : List ℕ) (tests : List Term) (place : ℕ) (params : Row) (test : X → Bool)
+module _ {X : Type 0} (L : Layout X) (end : X → ℕ) {text : List ℕ} (tests : List Term) (place : ℕ) {params : Row} (test : X → Bool)
     (reading : IsReading desk_schema first_row text L.table.tree tests (col 1 place ∷ []) (by place ∷ []) params)
     (low : (db : Trees) → overlay db [] L.table.tree ≡ db L.table.tree) (tests_are : (x : X) → passes tests params (L.image x) ≡ test x)
     (shows : (x : X) → output (picked L.table.tree tests (col 1 place ∷ []) (by place ∷ [])) (params ∷ L.image x ∷ []) ≡ twice (end x)) where
   -- the moments that are shown, cut from those of all rows that pass the test
   moments : (old new : State) (xs : List X) (rows : List Row) → HasRows L old.now xs → Shown text params old new rows
-      → (all : List Row) × IsOrderedAs (picked L.table.tree tests (col 1 place ∷ []) (by place ∷ []))
-      (map (λ x. twice (end x)) (filter test (map (λ (x : X). x) xs))) all
+      → (all : List Row) × IsOrderedAs (picked L.table.tree tests (col 1 place ∷ []) (by place ∷ [])) (map twice (map end (filter test xs))) all
       × (rows ≡ first_of all)
   moments old new xs rows has h =
-      answers_up_to L.image (λ (x : X). x) L.table.tree tests (col 1 place ∷ []) (by place ∷ []) params test (λ x. twice (end x)) tests_are shows first_row
-      text reading low old new xs rows has.schema has.rows_are h
+      answers_from reading old new has.schema
+      (matched L.image (λ (x : X). x) L.table.tree tests (col 1 place ∷ []) (by place ∷ []) params test (λ x. twice (end x)) tests_are shows low old.now.trees
+      xs has.rows_are
+      ∙ ap (λ ys. map (λ x. twice (end x)) (filter test ys)) (map-id xs)
+      ∙ sym (map-map twice end (filter test xs))) rows h
 
   -- so a look-up finds the earliest
   earliest_finds : {S : Type 0} (g : Ghosts S) (old : Held S) (xs : List X) → HasRows L (state g old).now xs
       → FindsEarliest g (text, params) old (map end (filter test xs))
   earliest_finds g old xs has =
-      let ys = filter test (map (λ (x : X). x) xs) in
-      let same : map (λ x. twice (end x)) ys ≡ map twice (map end (filter test xs)) =
-      ap (λ ys. map (λ x. twice (end x)) (filter test ys)) (map-id xs) ∙ sym (map-map twice end (filter test xs)) in
+      let ms = map end (filter test xs) in
       record {
         shows = λ new rows found h first.
             let it = moments (state g old) (state g new) xs rows has h in
-            earliest_in L.table.tree tests (col 1 place ∷ []) place (map end (filter test xs)) found it.1.ordered
-            (subst (λ os. IsPermutation os it.1.ordered) same it.1.same) it.1.sorted (first ∙ ap first_number (it.2 ∙ ap first_of it.1.shown));
+            earliest_in ms found it.1.ordered it.1.same it.1.sorted (first ∙ ap first_number (it.2 ∙ ap first_of it.1.shown));
         sure = λ may. record {
-          fails = λ new e.
-              query_fails first_row text L.table.tree tests (col 1 place ∷ []) (by place ∷ []) params reading (state g old) (state g new) has.schema e may;
+          fails = λ new e. join_fails refl reading (state g old) (state g new) has.schema e may;
           shows = λ new rows h.
               let it = moments (state g old) (state g new) xs rows has h in
-              begin_with_moment it.1.ordered rows (all-permutation IsMoment (map (λ x. twice (end x)) ys) it.1.ordered it.1.same (all_moments end ys))
+              begin_with_moment it.1.ordered rows (all-permutation IsMoment (map twice ms) it.1.ordered it.1.same (are_moments ms))
               (it.2 ∙ ap first_of it.1.shown);
         };
       }
@@ -203,14 +195,13 @@ module _ {S : Type 0} (g : Ghosts S) (old : Held S) (T : Tables) (has : Holds (s
   pub issue_find : FindsEarliest g (nonce.SELECT_EARLIEST.now, []) old (issues T)
   issue_find =
       subst (λ ns. FindsEarliest g (nonce.SELECT_EARLIEST.now, []) old (map (λ (n : Nonce). n.issued) ns)) (filter-all T.nonces)
-      (earliest_finds nonce_layout (λ n. n.issued) nonce.SELECT_EARLIEST.now [] 3 [] (λ _. true) issue_reading (λ _. refl) (λ _. refl) (λ _. refl)
+      (earliest_finds nonce_layout (λ n. n.issued) [] 3 (λ _. true) issue_reading (λ _. refl) (λ _. refl) (λ _. refl)
       g old T.nonces (nonces_held _ T has))
 
   -- of orders of a status
   pub order_end_find : (status : OrderStatus) → FindsEarliest g (ord.SELECT_EARLIEST.now, text (order_status_text status)) old (order_ends T status)
   order_end_find status =
-      earliest_finds order_layout (λ o. o.expires) ord.SELECT_EARLIEST.now (is_equal order_status_at) 4 (text (order_status_text status))
-      (λ o. order_code o.status == order_code status) (order_end_reading status) (λ _. refl)
+      earliest_finds order_layout (λ o. o.expires) (is_equal order_status_at) 4 (λ o. order_code o.status == order_code status) (order_end_reading status) (λ _. refl)
       (λ o. text_test (order_status_text o.status) (order_status_text status) ∙ order_status_test o.status status) (λ _. refl)
       g old T.orders (orders_held _ T has)
 
@@ -218,7 +209,6 @@ module _ {S : Type 0} (g : Ghosts S) (old : Held S) (T : Tables) (has : Holds (s
   pub authorization_end_find : (status : AuthzStatus)
       → FindsEarliest g (authz.SELECT_EARLIEST.now, text (authorization_status_text status)) old (authorization_ends T status)
   authorization_end_find status =
-      earliest_finds authorization_layout (λ r. r.expires) authz.SELECT_EARLIEST.now (is_equal authorization_status_at) 6
-      (text (authorization_status_text status)) (λ r. authz_code r.status == authz_code status) (authorization_end_reading status) (λ _. refl)
+      earliest_finds authorization_layout (λ r. r.expires) (is_equal authorization_status_at) 6 (λ r. authz_code r.status == authz_code status) (authorization_end_reading status) (λ _. refl)
       (λ r. text_test (authorization_status_text r.status) (authorization_status_text status) ∙ authorization_status_test r.status status) (λ _. refl)
       g old T.authorizations (authorizations_held _ T has)

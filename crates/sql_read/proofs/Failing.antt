@@ -14,7 +14,7 @@ use Rattle.sqlite.specs.{Clock.timed, Schema.Schema, Effect.Database, Effect.Ref
 use Rattle.sqlite.proofs.Callers.{IsPlain, command_of}
 use Rattle.sql_schema.specs.{Failing.IsFailure, Stays.Asks}
 use Rattle.sql_read.specs.Failures.{FailsToRead, MayRead}
-use Rattle.sql_read.proofs.Answered.{IsCommand, IsReading, IsReadingFrom, all_rows, compiled_alone, names_of, one, picked_from, tail_of}
+use Rattle.sql_read.proofs.Answered.{IsCommand, IsReading, IsReadingFrom, all_rows, compiled_alone, names_of, picked_from, tail_of}
 
 -- ---- the engine
 
@@ -22,8 +22,8 @@ use Rattle.sql_read.proofs.Answered.{IsCommand, IsReading, IsReadingFrom, all_ro
 pub failed : (old new : State) (e : Error) (cause : StoreError) → IsTrue old.is_open → e ≡ store_error cause → HasCause old new ⊥ cause → IsFailure e
 failed old new e cause h k l = search rules
 
-module _ {schema : Schema} (limit : Term) (text : List ℕ) (from : Join) (unfolded : has_no_fold from ≡ true) (tests project : List Term)
-    (order : List (Term × Key)) (params : Row)
+module _ {schema : Schema} {limit : Term} {text : List ℕ} {from : Join} (unfolded : has_no_fold from ≡ true) {tests project : List Term}
+    {order : List (Term × Key)} {params : Row}
     (is : IsReadingFrom schema limit text from tests project order params) (old new : State) (has : old.now.schema ≡ schema) (e : Error) where
   -- what the text means
   meant : IsCommand schema text (Select (record { lets = []; body = picked_from limit from tests project order }) is.names)
@@ -84,21 +84,13 @@ module _ {schema : Schema} (limit : Term) (text : List ℕ) (from : Join) (unfol
       let bare : values ≡ params = ap (λ f. timed params f it.now) plain.1 ∙ append-nil params in
       absurd (refused old.step_limit may.unlimited c.command values shown.0 (sym (ap command_of k) ∙ meant.is) bare db shown.2)
 
--- so does one of one table
-pub query_fails : {schema : Schema} (limit : Term) (text : List ℕ) (tree : ℕ) (tests project : List Term) (order : List (Term × Key)) (params : Row)
-    → IsReading schema limit text tree tests project order params → (old new : State) → old.now.schema ≡ schema → (e : Error) → MayRead old
-    → FailsToQuery text params old new e → IsFailure e
-query_fails limit text tree tests project order params is old new has e =
-    join_fails limit text (one tree) refl tests project order params is old new has e
-
--- and so does a reading of a whole table, where the rows that it shows fit
-pub reading_fails : {schema : Schema} (text : List ℕ) (tree : ℕ) (project : List Term) (order : List (Term × Key))
+-- so does a reading of a whole table, where the rows that it shows fit
+pub reading_fails : {schema : Schema} {text : List ℕ} {tree : ℕ} {project : List Term} {order : List (Term × Key)}
     → IsReading schema all_rows text tree [] project order [] → (old new : State) → old.now.schema ≡ schema → (e : Error) (Fits : Row → Type 0)
     → MayRead old → ((rows : List Row) → Shown text [] old new rows → All Fits rows)
     → FailsToRead text [] old new Fits e → IsFailure e
-reading_fails text tree project order is old new has e Fits may fit (inl query) =
-    query_fails all_rows text tree [] project order [] is old new has e may query
-reading_fails text tree project order is old new has e Fits may fit (inr (rows, shown, memory)) = inl (memory (fit rows shown))
+reading_fails is old new has e Fits may fit (inl query) = join_fails refl is old new has e may query
+reading_fails is old new has e Fits may fit (inr (rows, shown, memory)) = inl (memory (fit rows shown))
 
 -- ---- one reading after another
 

@@ -9,11 +9,10 @@ use Rattle.store_columns.specs.{Columns.meta_columns, Limits.IsStoredMeta, decla
 use Rattle.desk_model.specs.{Kept.EachOf, Tables.Tables, declared.rows.Meta.Meta}
 use Rattle.store_columns.proofs.RowsApart.{metas-apart}
 use Rattle.sql_read.specs.FirstRows.{HasNoFirstBook, HasNoFirstMeta, HasNoRowsWith, IsFirstMeta, IsFirstReadable}
-use Rattle.sql_read.specs.{AllTables.FailsAtFirst, Reads.Reads, Failures.IsMet, Failures.IsOutOfMemory, Failures.MayRead, First.AreFirstShown}
-use Rattle.sql_read.specs.{First.ShowsFirstMeta, First.raised_meta, Only.ShowsOnlyFirstMetas, Only.ShowsOnlyRows, Spelled.meta_in}
-use Rattle.sql_read.specs.{declared.formats.Format.TheVariants.First}
-use Rattle.sql_read.proofs.{BookChecks.first_still, BookOfShown.first_book_shown, Failing.may_read_still, HeldBooks.held_first_only, MetFaults.met_behind}
+use Rattle.sql_read.specs.{AllTables.FailsAtFirst, Failures.IsOutOfMemory, Only.ShowsOnlyFirstMetas, Spelled.meta_in, declared.formats.Format.TheVariants.First}
+use Rattle.sql_read.specs.{Reads.Reads, Failures.IsMet, Failures.MayRead, First.AreFirstShown, First.ShowsFirstMeta, First.raised_meta, Only.ShowsOnlyRows}
 use Rattle.sql_read.proofs.Results.{either_then, fails_then, read_then, unchanged_after}
+use Rattle.sql_read.proofs.{BookChecks.first_still, BookOfShown.first_book_shown, Failing.may_read_still, HeldBooks.held_first_only, MetFaults.met_behind}
 use Rattle.sql_schema.specs.{Failing.IsFailure, Stays.Asks}
 use Rattle.sql_schema.proofs.StaysLemmas.{asks_then}
 use Rattle.sql_tables.specs.Holds.{HoldsFirst}

@@ -10,8 +10,8 @@ use Rattle.sql_tables.specs.Images.{formatted_image}
 use Rattle.sql_read.specs.{BookShown.HoldsIn, Failures.MayRead, Format.IsNewer, Format.IsOfLaterFormat, declared.formats.Format.Format}
 use Rattle.sql_read.specs.{declared.formats.Format.TheVariants.First, declared.formats.Format.TheVariants.Second}
 use Rattle.sql_schema.specs.declared.meta.TheConstants as meta
-use Rattle.sql_read.proofs.Answered.{all_rows, answers, picked, shown_somehow}
-use Rattle.sql_read.proofs.{Failing.query_fails, Readings.format_reading, KeptRows.format_kept, KeptRows.number_of, KeptRows.schema_of}
+use Rattle.sql_read.proofs.Answered.{answers_from, matched, picked, shown_somehow}
+use Rattle.sql_read.proofs.{Failing.join_fails, Readings.format_reading, KeptRows.format_kept, KeptRows.number_of, KeptRows.schema_of}
 use Rattle.sql_schema.specs.Failing.{IsFailure}
 
 module _ (f : Format) (old new : State) (there : old.now.schema ≡ schema_of f) where
@@ -21,13 +21,14 @@ module _ (f : Format) (old new : State) (there : old.now.schema ≡ schema_of f)
   format_shown format m rows alone h =
       let project = col 1 2 ∷ [] in
       let shown : ℤ × Meta → Output = λ m. ([], Int m.0 ∷ []) in
-      let answered = answers formatted_image (λ (m : ℤ × Meta). m) 0 [] project [] [] (λ _. true) shown (λ _. refl) (λ _. refl) meta.SELECT_FORMAT.now
-      (format_reading f) (λ _. refl) old new ((format, m) ∷ []) rows there alone h in
-      one_permutation (Int format ∷ []) rows (shown_somehow (picked 0 [] project []) shown ((format, m) ∷ []) rows answered)
+      let it = answers_from (format_reading f) old new there
+      (matched formatted_image (λ (m : ℤ × Meta). m) 0 [] project [] [] (λ _. true) shown (λ _. refl) (λ _. refl) (λ _. refl) old.now.trees ((format, m) ∷ [])
+      alone) rows h in
+      it.2 ∙ one_permutation (Int format ∷ []) it.0 (shown_somehow (picked 0 [] project []) shown ((format, m) ∷ []) it.0 it.1)
 
   -- its reading fails for memory or the disk alone
   format_fails : (e : Error) → MayRead old → FailsToQuery meta.SELECT_FORMAT.now [] old new e → IsFailure e
-  format_fails e may = query_fails all_rows meta.SELECT_FORMAT.now 0 [] (col 1 2 ∷ []) [] [] (format_reading f) old new there e may
+  format_fails e may = join_fails refl (format_reading f) old new there e may
 
 -- ---- a desk
 

@@ -10,7 +10,6 @@ use Rattle.model_laws.proofs.RowLists.{ascends_map}
 use Rattle.desk_model.specs.{Kept.EachOf, Tables.Tables, declared.rows.Listed.Listed, declared.rows.OrderRow.OrderRow}
 use Rattle.sql_schema.specs.declared.accounts.TheConstants as account
 use Rattle.sql_schema.specs.declared.keys.TheConstants as chall_key
-use Rattle.sql_schema.specs.declared.meta.TheConstants as meta
 use Rattle.sql_schema.specs.declared.nonces.TheConstants as nonce
 use Rattle.sql_tables.specs.Holds.{AreRising, Holds, HoldsFirst}
 use Rattle.sql_tables.specs.{Images.formatted_columns, Layouts.challenge_layout, Layouts.key_layout, Sorted.sorted_by}
@@ -138,7 +137,7 @@ module _ {S : Type 0} (g : Ghosts S) (here : Held S) (T : Tables) (book : IsStor
     stored = stored Second has;
     by_key = by_key T has.rising book;
     book = is_book T has.rising book;
-    metas = (whole g meta_facts meta.SELECT.now here T (T.meta ∷ []) (meta_reading Second) (meta_kept (state g here).now T has)).only book.texts;
+    metas = (whole g meta_facts here T (meta_reading Second) (meta_kept (state g here).now T has)).only book.texts;
     only = rows_only Second has;
   }
 

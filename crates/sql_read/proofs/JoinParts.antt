@@ -150,16 +150,9 @@ keyed_back c = grind arith
 pub joined_back : (c : JoinedColumns) → joined_in (joined_params c) ≡ c
 joined_back c = grind arith
 
--- the TEXT columns are UTF-8
-abbrev pub HasTextKeyed : KeyedColumns → Type 0
-HasTextKeyed c = HasTextChallenge c.0
-
-abbrev pub HasTextJoined : JoinedColumns → Type 0
-HasTextJoined c = HasTextChallenge c.0.0 × HasTextAuthorization c.0.1
-
--- then the values are of the kinds of the columns
-pub keyed_fits : (c : KeyedColumns) → HasTextKeyed c → FitsKeyed (keyed_params c)
+-- where the TEXT columns are UTF-8 the values are of the kinds of the columns
+pub keyed_fits : (c : KeyedColumns) → HasTextChallenge c.0 → FitsKeyed (keyed_params c)
 keyed_fits c h = grind arith
 
-pub joined_fits : (c : JoinedColumns) → HasTextJoined c → FitsJoined (joined_params c)
+pub joined_fits : (c : JoinedColumns) → HasTextChallenge c.0.0 × HasTextAuthorization c.0.1 → FitsJoined (joined_params c)
 joined_fits c h = grind arith

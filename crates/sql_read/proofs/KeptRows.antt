@@ -1,6 +1,6 @@
 -- The rows that a database of a desk keeps of each table by number, in either format.
 use Rattle.std.proofs.Common.{◌≡◌, ℤ, List, [], ◌∷◌, map, refl, sym, subst, arith}
-use Rattle.std.proofs.lemmas.{List.map-id, Simd.map-map}
+use Rattle.std.proofs.{lemmas.List.map-id, lemmas.Simd.map-map}
 use Rattle.sqlite.specs.{Effect.Database, Schema.Schema}
 use Rattle.store_columns.specs.Columns.{authorization_columns, challenge_columns, first_format, key_columns, known_format, nonce_columns, order_columns}
 use Rattle.store_columns.specs.Flat.{bare_row, challenge_rows, key_rows, summarized, without_challenges, without_listed}
@@ -9,15 +9,14 @@ use Rattle.store_columns.specs.TextColumns.{HasTextAuthorization, HasTextChallen
 use Rattle.model_laws.proofs.Basics.{each, each-map, each_all, each_of_map}
 use Rattle.desk_model.specs.{Kept.EachOf, Tables.Tables}
 use Rattle.sql_schema.specs.Schema.{desk_schema, first_schema}
-use Rattle.sql_tables.specs.Layouts.{IsRising, Layout, account_layout, authorization_layout, challenge_layout, formatted_layout, key_layout, nonce_layout}
-use Rattle.sql_tables.specs.Layouts.{order_layout}
-use Rattle.sql_tables.specs.{Holds.Holds, Holds.HoldsFirst, Sorted.sorted_by}
+use Rattle.sql_tables.specs.{Layouts.IsRising, Layouts.Layout, Layouts.key_layout, Layouts.order_layout, Holds.Holds, Holds.HoldsFirst, Sorted.sorted_by}
+use Rattle.sql_tables.specs.{Layouts.account_layout, Layouts.authorization_layout, Layouts.challenge_layout, Layouts.formatted_layout, Layouts.nonce_layout}
 use Rattle.sql_tables.proofs.Sorting.{each_sorted, sorted_rises}
-use Rattle.sql_read.specs.declared.formats.Format.TheVariants.{First, Second}
-use Rattle.sql_read.specs.{BookShown.HoldsIn, declared.formats.Format.Format}
-use Rattle.sql_read.proofs.{FoundRows.Keeps, KeyedReadings.HasRowsIn, Lists.each_map_sorted}
+use Rattle.sql_read.specs.{declared.formats.Format.TheVariants.First, declared.formats.Format.TheVariants.Second, BookShown.HoldsIn}
+use Rattle.sql_read.specs.declared.formats.Format.{Format}
 use Rattle.sql_read.proofs.TableFacts.{account_facts, authorization_facts, challenge_facts, columns, formatted_facts, key_facts, meta_facts, nonce_facts}
 use Rattle.sql_read.proofs.TableFacts.{order_facts, summary_facts}
+use Rattle.sql_read.proofs.{FoundRows.Keeps, KeyedReadings.HasRowsIn, Lists.each_map_sorted}
 
 -- the definitions of a format, and its number
 abbrev pub schema_of : Format → Schema
@@ -87,8 +86,8 @@ module _ (db : Database) (T : Tables) where
             (each _ _ T.orders (λ o k. record { number = k.number; account = k.account; made = k.made; expires = k.expires; bare = refl })
             (each_of_map IsStoredOrder without_listed T.orders (whole.stored stored)));
         texts = λ texts.
-            each-map HasTextSummary (columns summary_facts) T.orders
-            (each _ _ T.orders (λ o k. k.status) (each_of_map HasTextOrder (columns order_facts) T.orders (whole.texts texts)));
+            each-map HasTextSummary (columns summary_facts.rows) T.orders
+            (each _ _ T.orders (λ o k. k.status) (each_of_map HasTextOrder (columns order_facts.rows) T.orders (whole.texts texts)));
       }
 
   -- authorizations, without their challenges
@@ -110,7 +109,7 @@ module _ (db : Database) (T : Tables) where
         rows = rows_in challenge_layout (sorted_by key cs) format has (λ has. (has.challenges, sorted_rises key cs))
             (λ has. (has.challenges, sorted_rises key cs));
         stored = λ stored. each_map_sorted key bare_row IsStoredChallenge cs stored.challenges;
-        texts = λ texts. each_map_sorted key (columns challenge_facts) HasTextChallenge cs
+        texts = λ texts. each_map_sorted key (columns challenge_facts.rows) HasTextChallenge cs
             (subst (EachOf HasTextChallenge) (map-map challenge_columns bare_row cs) texts.challs);
       }
 

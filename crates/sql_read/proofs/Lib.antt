@@ -42,7 +42,6 @@ pub mod Readings
 pub mod Results
 pub mod Selecting
 pub mod ShownRows
-pub mod ShownTables
 pub mod SideBySide
 pub mod StatusTests
 pub mod Streaming

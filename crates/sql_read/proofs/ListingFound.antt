@@ -1,24 +1,27 @@
 -- What the look-up of the orders that list an authorization finds: each as often as it lists it.
-use Rattle.std.proofs.Common.{◌≡◌, ◌==◌, ℕ, List, [], ◌∷◌, map, filter, flat_map, refl, rules}
-use Rattle.sqlite.specs.{Held.Held, Held.state, Store.Ghosts}
+use Rattle.std.proofs.Common.{◌≡◌, ◌==◌, ℕ, pos, List, [], ◌∷◌, map, filter, flat_map, refl, subst, sym, ap, ◌∙◌, rules}
+use Rattle.std.proofs.lemmas.{List.Kept.IsStrictlySortedBy-filter, List.Sorted.IsPermutation-sym, Simd.map-map}
+use Rattle.std.specs.List.Sorted.{IsPermutation}
+use Rattle.sqlite.specs.{Held.Held, Held.state, Store.Ghosts, declared.types.Value.TheVariants.Int}
 use Rattle.sqlite_trees.proofs.ListLemmas.{flat_map-map}
-use Rattle.store_columns.specs.{Columns.order_columns, Flat.listed_rows, Flat.without_listed, Limits.IsStoredOrder, TextColumns.HasTextOrder}
-use Rattle.store_columns.proofs.RowsApart.{orders-apart}
-use Rattle.model_laws.proofs.{Basics.each_all, Basics.each_of_map, Keeps.each-filter}
-use Rattle.desk_model.specs.{Kept.EachOf, Tables.Tables, declared.rows.OrderRow.OrderRow}
+use Rattle.sqlite_sql.specs.Program.{overlay}
+use Rattle.store_columns.specs.{Flat.listed_rows, Flat.without_listed, Limits.IsStoredListed, declared.columns.Owned.Owned}
+use Rattle.store_book.proofs.KeyedRows.{each_moved}
+use Rattle.model_laws.proofs.{Basics.each, Basics.each_all, Basics.each_of_map, Keeps.each-filter}
+use Rattle.desk_model.specs.{Kept.EachOf, Tables.Tables, declared.rows.Listed.Listed, declared.rows.OrderRow.OrderRow}
 use Rattle.model_lives.specs.LookUps.{orders_listing, orders_numbered}
 use Rattle.store_book.specs.IsBook.{IsStoredBook}
 use Rattle.sql_schema.specs.declared.orders.TheConstants as ord
-use Rattle.sql_tables.specs.{Holds.Holds, Images.order_params}
-use Rattle.sql_read.specs.{Queries.number, Under.HasItsListed, Spelled.FitsOrder, Spelled.order_in, declared.formats.Format.TheVariants.Second}
-use Rattle.sql_read.proofs.JoinParts.{listing_from, listing_project, listing_tests}
-use Rattle.sql_read.proofs.{Answered.all_rows, Answered.by, Failing.join_fails, KeptRows.orders_kept, FoundRows.FindsIn, FoundRows.finds_shown}
-use Rattle.sql_read.proofs.{ListingRows.its_orders, ListingRows.orders_shown, Lists.each_flat, LookUpReadings.listing_reading, TableColumns.order_back}
-use Rattle.sql_read.proofs.{TableColumns.order_fits, TableFacts.columns, TableFacts.order_facts, UnderLemmas.listing_is, UnderLemmas.orders_have}
+use Rattle.sql_tables.specs.{Hidden.row_of, Holds.Holds}
+use Rattle.sql_read.specs.{Queries.number, Under.HasItsListed, declared.formats.Format.TheVariants.Second}
+use Rattle.sql_read.proofs.Beside.{each_pair, map-pairs, one_owner, owner, pairs, pairs_strictly, seconds, told_by}
+use Rattle.sql_read.proofs.{FoundRows.FindsIn, FoundRows.are_kept, FoundRows.finds_matched, KeptRows.orders_kept, ListedOrder.listed_strictly}
+use Rattle.sql_read.proofs.{ListedOrder.ranks, ListingRows.listing_facts, ListingRows.listing_match, ListingRows.of_place, ListingRows.shown, Lists.each_flat}
+use Rattle.sql_read.proofs.{Lists.part_moved, LookUpReadings.listing_reading, TableFacts.order_facts, UnderLemmas.listing_is, UnderLemmas.orders_have}
 
 -- the order of each place that lists the authorization
 abbrev pub listing_orders : Tables → ℕ → List OrderRow
-listing_orders T n = flat_map (its_orders T.orders) (filter (λ l. l.row.authorization == n) (listed_rows T.orders))
+listing_orders T n = flat_map (told_by owner (λ o. o.number) T.orders) (filter (λ l. l.row.authorization == n) (listed_rows T.orders))
 
 -- what is so of each order
 of_each_order : (P : OrderRow → Type 0) (T : Tables) (n : ℕ) → EachOf P T.orders → EachOf P (listing_orders T n)
@@ -34,16 +37,28 @@ module _ {S : Type 0} (g : Ghosts S) (old : Held S) (T : Tables) (has : Holds (s
   listing_have n = of_each_order (HasItsListed T.orders) T n (orders_have 0 T.orders has.rising.orders)
 
   -- they are found, without what they list
-  pub listing_find : IsStoredBook T → (n : ℕ) → FindsIn order_facts g (ord.SELECT_LISTING.now, number n) old (map without_listed (listing_orders T n))
+  pub listing_find : IsStoredBook T → (n : ℕ)
+      → FindsIn order_facts.rows g (ord.SELECT_LISTING.now, number n) old (map without_listed (listing_orders T n))
   listing_find book n =
-      let orders = orders_kept _ T Second has in
-      finds_shown without_listed order_columns IsStoredOrder order_in order_params order_back orders-apart HasTextOrder FitsOrder order_fits g
-      (ord.SELECT_LISTING.now, number n) old (listing_orders T n)
-      (of_each_order (λ o. IsStoredOrder (without_listed o)) T n (each_of_map IsStoredOrder without_listed T.orders (orders.stored book.stored)))
-      (of_each_order (λ o. HasTextOrder (columns order_facts o)) T n (each_of_map HasTextOrder (columns order_facts) T.orders (orders.texts book.texts)))
-      (λ new rows h.
-      orders_shown (state g old) (state g new) T.orders n rows has.schema has.listed has.orders has.rising.orders book.book.in_order.places
-      book.stored.listed h)
-      (λ may new e h.
-      join_fails all_rows ord.SELECT_LISTING.now listing_from refl listing_tests listing_project (by 1 ∷ by 2 ∷ []) (number n) (listing_reading n)
-      (state g old) (state g new) has.schema e may h)
+      let os = T.orders in
+      let ls = listed_rows os in
+      let ts = has.listed.numbered in
+      let test = λ (l : Owned Listed). l.row.authorization == n in
+      let xs = pairs owner (λ (o : OrderRow). o.number) os (filter test ls) in
+      let all = each_all (λ _. Unit {0}) (filter test ls) (λ _. tt) in
+      let kept = are_kept order_facts (orders_kept _ T Second has) book in
+      let stored = each_of_map IsStoredListed row_of ts (each_moved IsStoredListed ls (map row_of ts) (IsPermutation-sym (map row_of ts) ls has.listed.same)
+      book.stored.listed) in
+      subst (FindsIn order_facts.rows g (ord.SELECT_LISTING.now, number n) old)
+      (sym (map-map without_listed (λ (x : Owned Listed × OrderRow). x.1) xs)
+      ∙ ap (map without_listed) (seconds owner (λ (o : OrderRow). o.number) os (filter test ls)))
+      (finds_matched listing_facts g (listing_reading n) refl old has.schema (listing_match (overlay (state g old).now.trees []) os has.orders n ts has.listed.has stored)
+      (λ x. Int (pos x.0.owner) ∷ Int (pos x.0.row.place) ∷ []) xs (
+        each _ _ xs (λ x p. p.1) (each_pair owner (λ o. o.number) os (λ _. Unit {0}) _ (filter test ls) all kept.0),
+        each _ _ xs (λ x p. p.1) (each_pair owner (λ o. o.number) os (λ _. Unit {0}) _ (filter test ls) all kept.1),
+      )
+      (subst (IsPermutation _) (map-pairs owner (λ o. o.number) os shown (filter test ls))
+      (part_moved (of_place os) test row_of ts ls has.listed.same))
+      (pairs_strictly owner (λ o. o.number) os ranks (filter test ls)
+      (each-filter _ test ls (one_owner (λ (o : OrderRow). o.number) (λ o. o.listed) 0 os has.rising.orders))
+      (IsStrictlySortedBy-filter ranks test ls (listed_strictly 0 os has.rising.orders book.book.in_order.places))))

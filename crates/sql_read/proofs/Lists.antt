@@ -1,28 +1,18 @@
 -- Lists: maps, filters and their order.
-use Rattle.std.proofs.Common.{◌≡◌, ℕ, zero, suc, take, List, [], ◌∷◌, ◌++◌, ◌&&◌, map, filter, flat_map, Bool, true, cond, Option, refl, ap, subst, ◌∙◌, arith}
-use Rattle.std.proofs.Common.{rules}
-use Rattle.std.proofs.{lemmas.List.Sorted.IsPermutation-refl, lemmas.Grind.flat_map-append, lemmas.List.take-map}
+use Rattle.std.proofs.Common.{◌≡◌, ℕ, zero, suc, take, List, [], ◌∷◌, ◌++◌, map, filter, flat_map, Bool, true, Option, refl, ap, subst, ◌∙◌, arith, rules}
+use Rattle.std.proofs.{lemmas.Grind.flat_map-append, lemmas.List.take-map}
 use Rattle.std.specs.List.Sorted.{IsPermutation}
-use Rattle.sqlite_trees.proofs.ListLemmas.{flat_map_none}
+use Rattle.sqlite_trees.proofs.ListLemmas.{IsPermutation-filter, IsPermutation-flat_map, filter-map, flat_map-map}
 use Rattle.sqlite_sql.specs.Query.{limited}
 use Rattle.model_laws.proofs.Basics.{each-append, each-map, each_of_map}
 use Rattle.desk_model.specs.Kept.{EachOf}
 use Rattle.sql_tables.specs.Sorted.{sorted_by}
 use Rattle.sql_tables.proofs.Sorting.{each_sorted}
 
--- maps that agree
-pub map-same : {A B : Type 0} (f g : A → B) (xs : List A) → ((x : A) → f x ≡ g x) → map f xs ≡ map g xs
-map-same f g xs h = search rules
-
 -- a test that holds always
 pub filter-all : {A : Type 0} (xs : List A) → filter (λ _. true) xs ≡ xs
 filter-all [] = refl
 filter-all (x ∷ xs) = ap (λ ys. x ∷ ys) (filter-all xs)
-
--- a test of what a map gives
-pub filter-map : {A B : Type 0} (p : B → Bool) (f : A → B) (xs : List A) → filter p (map f xs) ≡ map f (filter (λ x. p (f x)) xs)
-filter-map p f [] = refl
-filter-map {A} p f (x ∷ xs) = grind (arith, (filter-map p f xs))
 
 -- what holds of each item of these lists
 pub each_flat : {X Y : Type 0} (P : Y → Type 0) (f : X → List Y) (xs : List X) → EachOf (λ x. EachOf P (f x)) xs → EachOf P (flat_map f xs)
@@ -34,24 +24,7 @@ pub each_passing : {X : Type 0} (test : X → Bool) (xs : List X) → EachOf (λ
 each_passing test [] = tt
 each_passing {X} test (x ∷ xs) = grind (arith, (each_passing test xs))
 
--- equal lists are permutations
-pub as_it_is : {X : Type 0} (xs ys : List X) → xs ≡ ys → IsPermutation xs ys
-as_it_is xs ys same = subst (λ zs. IsPermutation xs zs) same (IsPermutation-refl xs)
-
 -- ---- lists of lists
-
--- of two tests the last may come first
-pub last_first : {A : Type 0} (b c : Bool) (xs : List A) → cond (b && c) xs [] ≡ cond c (cond b xs []) []
-last_first b c xs = search rules
-
--- all of it, or nothing
-pub kept : {A B : Type 0} (b : Bool) (f : A → List B) (xs : List A) → flat_map (λ x. cond b (f x) []) xs ≡ cond b (flat_map f xs) []
-kept b f xs = search (rules, flat_map_none)
-
--- what is made of the items that pass
-pub chosen : {A B : Type 0} (p : A → Bool) (f : A → List B) (xs : List A) → flat_map (λ x. cond (p x) (f x) []) xs ≡ flat_map f (filter p xs)
-chosen p f [] = refl
-chosen p f (x ∷ xs) = grind (arith, (chosen p f xs))
 
 -- of each item of each
 pub in_turn : {A B C : Type 0} (f : B → List C) (g : A → List B) (xs : List A) → flat_map f (flat_map g xs) ≡ flat_map (λ x. flat_map f (g x)) xs
@@ -62,6 +35,14 @@ in_turn f g (x ∷ xs) = flat_map-append f (g x) (flat_map g xs) ∙ ap (λ l. f
 pub each_same : {A B : Type 0} (f g : A → List B) (xs : List A) → EachOf (λ x. f x ≡ g x) xs → flat_map f xs ≡ flat_map g xs
 each_same f g [] h = refl
 each_same f g (x ∷ xs) h = λ i. h.0 i ++ each_same f g xs h.1 i
+
+-- what is made of the items that pass, in another order of these
+pub part_moved : {X Y Z : Type 0} (f : Y → List Z) (test : Y → Bool) (g : X → Y) (xs : List X) (ys : List Y) → IsPermutation (map g xs) ys
+    → IsPermutation (flat_map (λ x. f (g x)) (filter (λ x. test (g x)) xs)) (flat_map f (filter test ys))
+part_moved f test g xs ys same =
+    subst (λ zs. IsPermutation zs (flat_map f (filter test ys)))
+    (ap (flat_map f) (filter-map test g xs) ∙ flat_map-map f g (filter (λ x. test (g x)) xs))
+    (IsPermutation-flat_map f _ _ (IsPermutation-filter test (map g xs) ys same))
 
 -- ---- lists that are cut
 

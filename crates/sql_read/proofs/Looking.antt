@@ -67,6 +67,14 @@ pub looked : {S W A : Type 0} {g : Ghosts S} {old new : Held S} {Such : Tables �
     → ((T : Tables) → Holds (state g old).now T → IsStoredBook T → (a : A) → Is (pick T) a → Are T a) → LooksFor g old new Such Is r → LooksUp g old new Are r
 looked {r = r} pick such so look = grind arith
 
+-- rows were, whatever the query is called
+pub looked_as : {S R C A : Type 0} {g : Ghosts S} {spelled : Row → C} {Fits : Row → Type 0} {write : R → C} {IsStored : R → Type 0}
+    {ask other : List ℕ × Row} {old new : Held S} {items : A → List R} {pick : Tables → List R} {r : Result A ReadFault} → other ≡ ask
+    → ((T : Tables) → Holds (state g old).now T → IsStoredBook T → Finds g spelled Fits write IsStored ask old (pick T))
+    → LooksFor g old new (λ _ rows. Finds g spelled Fits write IsStored other old rows) (λ rows a. items a ≡ rows) r
+    → LooksUp g old new (λ T a. items a ≡ pick T) r
+looked_as {pick = pick} same finds look = looked pick (λ T has book. finds_as same (finds T has book)) (λ T has book a are. are) look
+
 module _ {S W A : Type 0} {g : Ghosts S} {old new : Held S} {Such : Tables → W → Type 0} {Is : W → A → Type 0} where
   -- ---- in a desk's tables
 

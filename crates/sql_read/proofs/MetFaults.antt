@@ -1,9 +1,9 @@
 -- A reading has an error of the disk only where the disk met a fault.
-use Rattle.std.proofs.Common.{◌≡◌, ℕ, List, Result, IfErr, None, Option, sym, ◌∙◌, arith, rules}
+use Rattle.std.proofs.Common.{◌≡◌, ℕ, List, Result, IfErr, None, Option, sym, ◌∙◌, rules}
 use Rattle.sqlite_resolve.specs.declared.compiled.Compiled.{Compiled}
-use Rattle.sqlite_schema.specs.{declared.command.Command.Command, declared.command.Returning.Returning}
+use Rattle.sqlite_schema.specs.declared.command.Returning.{Returning}
 use Rattle.sqlite.specs.State.{State, FailsToQuery, FailsToShow, IsNotRun}
-use Rattle.sqlite.specs.{Effect.Database, Effect.RefusesToRead, Order.Row, Order.column, Reading.IsReadError, declared.error.Error.Error}
+use Rattle.sqlite.specs.{Order.Row, Order.column, Reading.IsReadError, declared.error.Error.Error}
 use Rattle.sql_read.specs.{Failures.IsMet, Failures.IsOfNoDevice, Selecting.IsQuery}
 use Rattle.sql_read.proofs.Selecting.{none_understood}
 use Rattle.sql_schema.specs.Stays.{Asks}
@@ -19,11 +19,6 @@ pub value_is_none : {X : Type 0} (at : ℕ) (row : Row) (r : Result X Error) →
 value_is_none at row r h = search rules
 
 -- ---- the engine
-
--- a query that is refused
-refused : (old new : State) (limit : Option ℕ) (k : Command) (db : Database) (params : Row) (e : Error) → RefusesToRead limit k db params e
-    → IsMet old new e
-refused old new limit k db params e h = grind arith
 
 -- one that shows nothing of a write
 not_shown : (old new : State) (text : List ℕ) (c : Compiled) (params : Row) (e : Error) (r : Option Returning) → r ≡ None

@@ -62,10 +62,6 @@ place_params c = listed_params c.0 ++ authorization_params c.1
 pub place_back : (c : PlaceColumns) → place_in (place_params c) ≡ c
 place_back c = λ i. (c.0, authorization_back c.1 i)
 
--- the TEXT columns are UTF-8
-abbrev pub HasTextPlace : PlaceColumns → Type 0
-HasTextPlace c = HasTextAuthorization c.1
-
--- then the values are of the kinds of the columns
-pub place_fits : (c : PlaceColumns) → HasTextPlace c → FitsPlace (place_params c)
+-- where the TEXT columns are UTF-8 the values are of the kinds of the columns
+pub place_fits : (c : PlaceColumns) → HasTextAuthorization c.1 → FitsPlace (place_params c)
 place_fits c h = grind arith

@@ -1,20 +1,23 @@
 -- What the join of places shows: what each order that waits lists, beside the authorization that stands there.
-use Rattle.std.proofs.Common.{◌≡◌, ◌&&◌, if◌then◌else◌, ℕ, pos, Bool, cond, List, [], ◌∷◌, map, filter, flat_map, sym, ap, ◌∙◌, rules}
-use Rattle.std.proofs.{lemmas.List.Concat.flat_map_single, lemmas.Simd.map-map}
-use Rattle.std.specs.{Prelude.◌==◌, List.list_all}
+use Rattle.std.proofs.Common.{◌≡◌, ◌&&◌, ℕ, pos, Bool, true, cond, List, [], ◌∷◌, map, filter, flat_map, refl, subst, sym, ap, ◌∙◌, rules}
+use Rattle.std.specs.{Prelude.◌==◌, List.list_all, List.Sorted.IsPermutation}
 use Rattle.sqlite.specs.declared.types.Value.TheVariants.{Int}
 use Rattle.sqlite_value.specs.Order.{Row}
 use Rattle.sqlite_trees.specs.Tree.{Trees}
-use Rattle.sqlite_trees.proofs.ListLemmas.{flat_map-map, flat_map_same_on, map-flat_map}
+use Rattle.sqlite_trees.proofs.ListLemmas.{IsPermutation-flat_map_each}
 use Rattle.sqlite_sql.specs.{Query.Output, Query.Query, Query.end, Query.inner, Query.matches, Query.output, Term.Env, Term.holds}
-use Rattle.store_columns.specs.{Flat.listed_rows, Flat.owned_by, Flat.without_challenges, declared.columns.Owned.Owned}
+use Rattle.store_columns.specs.{Flat.listed_rows, Flat.owned_by, Flat.without_challenges, TextColumns.HasTextAuthorization, declared.columns.Owned.Owned}
+use Rattle.model_laws.proofs.Basics.{each, each_all}
 use Rattle.desk_model.specs.{Document.order_status_text, Kept.EachOf, Order.is_processing}
 use Rattle.desk_model.specs.declared.rows.{AuthorizationRow.AuthorizationRow, Listed.Listed, OrderRow.OrderRow}
 use Rattle.desk_model.specs.declared.status.OrderStatus.TheVariants as order
 use Rattle.sql_tables.specs.{Hidden.hidden, Hidden.row_of, Images.authorization_image, Images.listed_cells, Images.order_image}
-use Rattle.sql_read.proofs.PlaceParts.{Place, place_columns, place_from, place_order, place_params, place_project, place_tests}
-use Rattle.sql_read.proofs.{Answered.all_rows, Answered.picked_from, Beside.beside, Beside.pairs, Lists.chosen, Lists.each_same, Lists.in_turn, Lists.kept}
-use Rattle.sql_read.proofs.{LookUpReadings.text, Tests.number_text_test}
+use Rattle.sql_read.specs.Spelled.{FitsPlace, place_in}
+use Rattle.sql_read.proofs.PlaceParts.{IsStoredPlace, Place, PlaceColumns, place-apart, place_back, place_columns, place_fits, place_from}
+use Rattle.sql_read.proofs.PlaceParts.{place_order, place_params, place_project, place_tests}
+use Rattle.sql_read.proofs.{Answered.all_rows, Answered.picked_from, Beside.map-pairs, Beside.pairs, Beside.told_by, Lists.each_same, Lists.in_turn}
+use Rattle.sql_read.proofs.{Lists.part_moved, LookUpReadings.text, SideBySide.shown_if, SideBySide.spread, SideBySide.tests_first, TableFacts.RowFacts}
+use Rattle.sql_read.proofs.{TableFacts.cells, TableFacts.facts_of, Tests.number_text_test}
 
 -- ---- rows side by side
 
@@ -42,91 +45,68 @@ filled o t a = asked ∷ order_image o ∷ hidden listed_cells t ∷ authorizati
 abbrev pub place_query : Query
 place_query = picked_from all_rows place_from place_tests place_project place_order
 
+-- what is known of a place
+abbrev pub place_facts : RowFacts Place Place PlaceColumns
+place_facts =
+    facts_of bare_place place_columns place_in place_params place_back IsStoredPlace place-apart (λ c. HasTextAuthorization c.1) FitsPlace
+    place_fits
+
 -- a place beside what it is ordered by
 abbrev pub shown : Place → Output
-shown x = (Int (pos x.0.owner) ∷ Int (pos x.0.row.place) ∷ [], place_params (place_columns (bare_place x)))
+shown x = (Int (pos x.0.owner) ∷ Int (pos x.0.row.place) ∷ [], cells place_facts x)
 
 -- SQL's tests of the three are the model's
 passes_as : (o : OrderRow) (t : ℕ × Owned Listed) (a : AuthorizationRow)
     → list_all (holds (filled o t a)) place_tests ≡ ((t.1.owner == o.number) && ((a.number == authorization_at t.1) && waits o))
 passes_as o t a = search (rules, number_text_test)
 
--- what is shown where they pass
-shows : (o : OrderRow) (t : ℕ × Owned Listed) (a : AuthorizationRow)
-    → map (output place_query) (if list_all (holds (filled o t a)) place_tests then filled o t a ∷ [] else [])
-    ≡ cond (waits o) (cond (a.number == authorization_at t.1) (cond (t.1.owner == o.number) (shown (t.1, a) ∷ []) []) []) []
-shows o t a = search (rules, passes_as)
-
 -- ---- what the join shows
 
 module _ (rows : List AuthorizationRow) where
-  -- a place, if it is this order's, beside each authorization of its number
-  abbrev pub place_of : OrderRow → Owned Listed → List Output
-  place_of o l = cond (l.owner == o.number) (map shown (beside authorization_at rows l)) []
+  -- a place beside each authorization of its number
+  abbrev of_place : Owned Listed → List Output
+  of_place l = flat_map (λ a. shown (l, a) ∷ []) (told_by authorization_at (λ a. a.number) rows l)
 
-  -- of all places those of each order
-  pub gathered : (all : List (Owned Listed)) (os : List OrderRow)
-      → EachOf (λ o. filter (λ l. l.owner == o.number) all ≡ owned_by o.number o.listed) os
-      → flat_map (λ o. flat_map (place_of o) all) os ≡ map shown (pairs authorization_at rows (listed_rows os))
-  gathered all os own =
-      let of_all = λ (l : Owned Listed). map shown (beside authorization_at rows l) in
-      each_same (λ o. flat_map (place_of o) all) (λ o. flat_map of_all (owned_by o.number o.listed)) os (own_places all os own)
-      ∙ sym (in_turn of_all (λ (o : OrderRow). owned_by o.number o.listed) os)
-      ∙ sym (map-flat_map shown (beside authorization_at rows) (listed_rows os))
-    where
-      own_places : (all : List (Owned Listed)) (os : List OrderRow)
-          → EachOf (λ o. filter (λ l. l.owner == o.number) all ≡ owned_by o.number o.listed) os
-          → EachOf (λ o. flat_map (place_of o) all ≡ flat_map (λ l. map shown (beside authorization_at rows l)) (owned_by o.number o.listed)) os
-      own_places all [] own = tt
-      own_places all (o ∷ os) own = (
-        chosen (λ l. l.owner == o.number) (λ l. map shown (beside authorization_at rows l)) all
-            ∙ ap (flat_map (λ l. map shown (beside authorization_at rows l))) own.0,
-        own_places all os own.1,
-      )
+  module _ (ts : List (ℕ × Owned Listed)) where
+    -- the places of each order
+    abbrev of_orders : List OrderRow → List Output
+    of_orders os = flat_map (λ o. flat_map (λ t. of_place t.1) (filter (λ t. t.1.owner == o.number) ts)) os
 
-  module _ (db : Trees) (rows_are : db 5 ≡ map authorization_image rows) (ts : List (ℕ × Owned Listed)) (places_are : db 6 ≡ map (hidden listed_cells) ts)
-    where
+    -- in their order they are all places beside their authorizations
+    pub gathered : (all : List (Owned Listed)) → IsPermutation (map row_of ts) all → (os : List OrderRow)
+        → EachOf (λ o. filter (λ l. l.owner == o.number) all ≡ owned_by o.number o.listed) os
+        → IsPermutation (of_orders os) (map shown (pairs authorization_at (λ a. a.number) rows (listed_rows os)))
+    gathered all same os own =
+        subst (IsPermutation (of_orders os))
+        (each_same _ _ os (each _ _ os (λ o is. ap (flat_map of_place) is) own)
+        ∙ sym (in_turn of_place (λ (o : OrderRow). owned_by o.number o.listed) os)
+        ∙ map-pairs authorization_at (λ a. a.number) rows shown (listed_rows os))
+        (IsPermutation-flat_map_each _ _ (λ o. part_moved of_place (λ l. l.owner == o.number) row_of ts all same) os)
+
+    module _ (db : Trees) (rows_are : db 5 ≡ map authorization_image rows) (places_are : db 6 ≡ map (hidden listed_cells) ts) where
       -- of a place
       at_place : (o : OrderRow) (t : ℕ × Owned Listed)
           → map (output place_query) (matches db place_tests (inner 5 end) (asked ∷ order_image o ∷ hidden listed_cells t ∷ []))
-          ≡ cond (waits o) (place_of o t.1) []
+          ≡ cond ((t.1.owner == o.number) && waits o) (of_place t.1) []
       at_place o t =
-          let tried = λ (r : Row). if list_all (holds (asked ∷ order_image o ∷ hidden listed_cells t ∷ r ∷ [])) place_tests
-          then (asked ∷ order_image o ∷ hidden listed_cells t ∷ r ∷ []) ∷ [] else [] in
-          let is_there = λ (a : AuthorizationRow). a.number == authorization_at t.1 in
-          let one = λ (a : AuthorizationRow). shown (t.1, a) ∷ [] in
-          map-flat_map (output place_query) tried (db 5)
-          ∙ ap (flat_map (λ r. map (output place_query) (tried r))) rows_are
-          ∙ flat_map-map (λ r. map (output place_query) (tried r)) authorization_image rows
-          ∙ flat_map_same_on _ _ (shows o t) rows
-          ∙ kept (waits o) (λ a. cond (is_there a) (cond (t.1.owner == o.number) (one a) []) []) rows
-          ∙ ap (λ l. cond (waits o) l [])
-          (chosen is_there (λ a. cond (t.1.owner == o.number) (one a) []) rows
-          ∙ kept (t.1.owner == o.number) one (filter is_there rows)
-          ∙ ap (λ l. cond (t.1.owner == o.number) l [])
-          (flat_map_single (λ a. shown (t.1, a)) (filter is_there rows) ∙ sym (map-map shown (λ a. (t.1, a)) (filter is_there rows))))
+          spread place_query db place_tests end (asked ∷ order_image o ∷ hidden listed_cells t ∷ []) authorization_image 5
+          (λ a. (t.1.owner == o.number) && ((a.number == authorization_at t.1) && waits o)) (λ a. shown (t.1, a) ∷ []) rows rows_are
+          (λ _. Unit {0}) (each_all _ rows (λ _. tt)) (λ a _. shown_if place_query _ _ (filled o t a) (shown (t.1, a)) (passes_as o t a) refl)
+          ∙ tests_first (λ a. shown (t.1, a) ∷ []) (λ a. a.number == authorization_at t.1) (t.1.owner == o.number) (waits o) rows
 
       -- of an order
       at_order : (o : OrderRow)
           → map (output place_query) (matches db place_tests (inner 6 (inner 5 end)) (asked ∷ order_image o ∷ []))
-          ≡ cond (waits o) (flat_map (place_of o) (map row_of ts)) []
+          ≡ cond (waits o) (flat_map (λ t. of_place t.1) (filter (λ t. t.1.owner == o.number) ts)) []
       at_order o =
-          let tried = λ (r : Row). matches db place_tests (inner 5 end) (asked ∷ order_image o ∷ r ∷ []) in
-          map-flat_map (output place_query) tried (db 6)
-          ∙ ap (flat_map (λ r. map (output place_query) (tried r))) places_are
-          ∙ flat_map-map (λ r. map (output place_query) (tried r)) (hidden listed_cells) ts
-          ∙ flat_map_same_on _ _ (at_place o) ts
-          ∙ kept (waits o) (λ t. place_of o t.1) ts
-          ∙ ap (λ l. cond (waits o) l []) (sym (flat_map-map (place_of o) row_of ts))
+          spread place_query db place_tests (inner 5 end) (asked ∷ order_image o ∷ []) (hidden listed_cells) 6 (λ t. (t.1.owner == o.number) && waits o)
+          (λ t. of_place t.1) ts places_are (λ _. Unit {0}) (each_all _ ts (λ _. tt)) (λ t _. at_place o t)
+          ∙ tests_first (λ t. of_place t.1) (λ t. t.1.owner == o.number) true (waits o) ts
 
       -- of all orders those that wait
-      pub all_shown : (os : List OrderRow) → db 4 ≡ map order_image os
-          → map (output place_query) (matches db place_tests place_from (asked ∷ []))
-          ≡ flat_map (λ o. flat_map (place_of o) (map row_of ts)) (filter waits os)
-      all_shown os orders_are =
-          let tried = λ (r : Row). matches db place_tests (inner 6 (inner 5 end)) (asked ∷ r ∷ []) in
-          map-flat_map (output place_query) tried (db 4)
-          ∙ ap (flat_map (λ r. map (output place_query) (tried r))) orders_are
-          ∙ flat_map-map (λ r. map (output place_query) (tried r)) order_image os
-          ∙ flat_map_same_on _ _ at_order os
-          ∙ chosen waits (λ o. flat_map (place_of o) (map row_of ts)) os
+      pub place_match : (os : List OrderRow) → db 4 ≡ map order_image os
+          → map (output place_query) (matches db place_tests place_from (asked ∷ [])) ≡ of_orders (filter waits os)
+      place_match os orders_are =
+          spread place_query db place_tests (inner 6 (inner 5 end)) (asked ∷ []) order_image 4 waits
+          (λ o. flat_map (λ t. of_place t.1) (filter (λ t. t.1.owner == o.number) ts)) os orders_are (λ _. Unit {0}) (each_all _ os (λ _. tt))
+          (λ o _. at_order o)

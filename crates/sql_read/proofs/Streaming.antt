@@ -1,6 +1,7 @@
 -- Rows that are read and checked one after the other.
-use Rattle.std.proofs.Common.{◌≡◌, ℕ, inl, inr, List, [], ◌∷◌, ◌++◌, map, None, Option, Result, Ok, Err, append-nil, append_assoc, refl, sym, ap, subst, ◌∙◌}
+use Rattle.std.proofs.Common.{◌≡◌, ℕ, inl, inr, List, [], ◌∷◌, ◌++◌, map, None, Option, Result, Ok, Err, append-nil, append_assoc, refl, sym, subst, ◌∙◌}
 use Rattle.std.proofs.Common.{arith, rules}
+use Rattle.std.proofs.lemmas.List.{map-append}
 use Rattle.std.specs.Prelude.{Bool, IfSome, IsSome, OnErr, Some}
 use Rattle.sqlite.specs.Given.{HasBegun, HasGiven, IsRefused, Returns}
 use Rattle.sqlite.specs.State.{CommitsShowing, FailsToQuery, HasCleanDisk, IsUnchanged, Shown, Survives}
@@ -28,10 +29,6 @@ goes_nowhere Passed check first rows passed = subst (Passed first check) (sym (a
 pub goes_further : {K R : Type 0} (Passed : K → K → List R → Type 0) (before mid after : K) (more : List R) (row : R) → GoesOn Passed before mid more
     → GoesOn Passed mid after (row ∷ []) → GoesOn Passed before after (more ++ row ∷ [])
 goes_further Passed before mid after more row on further first rows passed = search (rules, append_assoc)
-
-map_more : {X Y : Type 0} (f : X → Y) (xs : List X) (x : X) → map f (xs ++ x ∷ []) ≡ map f xs ++ f x ∷ []
-map_more f [] x = refl
-map_more f (y ∷ xs) x = ap (λ l. f y ∷ l) (map_more f xs x)
 
 module _ {S : Type 0} (g : Ghosts S) (text : List ℕ) (is : IsQuery text) where
   -- a query that did not begin
@@ -97,7 +94,9 @@ module _ {S C R K : Type 0} (g : Ghosts S) (text : List ℕ) (spelled : Row → 
     rows = so_far.rows ++ found ∷ [];
     gives = gives;
     same = unchanged_then (state g old) (state g mid) (state g new) so_far.same same;
-    columns = map_more spelled so_far.given row ∙ (λ i. so_far.columns i ++ columns i ∷ []) ∙ sym (map_more write so_far.rows found);
+    columns = map-append spelled so_far.given (row ∷ [])
+        ∙ (λ i. so_far.columns i ++ columns i ∷ [])
+        ∙ sym (map-append write so_far.rows (found ∷ []));
     stored = each-append IsStored so_far.rows (found ∷ []) so_far.stored (stored, tt);
     is = goes_further Passed before check after so_far.rows found so_far.is on;
   }

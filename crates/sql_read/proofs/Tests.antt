@@ -88,10 +88,6 @@ number_text_test a n s t = λ i. is_number a n i && text_test s t i
 pub same_bounded : (a n : ℕ) → a ≤ last_number → (a == bounded n) ≡ (a == n)
 same_bounded a n low = grind arith
 
--- each moment of a row is below the greatest of SQL
-pub below_bounded : (a n : ℕ) → a ≤ last_number → nat_lt a (bounded n) ≡ nat_lt a n
-below_bounded a n low = grind arith
-
 -- no number of a row is above the greatest of SQL
 pub above_bounded : (a n : ℕ) → a ≤ last_number → nat_lt (bounded n) a ≡ nat_lt n a
 above_bounded a n low = grind arith

@@ -2,6 +2,7 @@
 use Rattle.std.proofs.Common.{◌≡◌, ℕ, Bool, List, [], ◌∷◌, map, filter, refl, sym, ap, ◌∙◌, arith, rules}
 use Rattle.std.proofs.{lemmas.List.Sorted.list_any-IsPermutation, lemmas.Simd.map-map}
 use Rattle.std.specs.{Prelude.◌==◌, Prelude.◌&&◌, List.list_any}
+use Rattle.sqlite_trees.proofs.ListLemmas.{filter-map}
 use Rattle.store_columns.specs.{Flat.challenge_rows, declared.columns.Owned.Owned}
 use Rattle.model_laws.specs.{Distinct.Distinct, Ordered.Ascends}
 use Rattle.model_laws.proofs.Basics.{each, list_any-map}
@@ -10,7 +11,7 @@ use Rattle.model_lives.specs.LookUps.{AreNumbers, AreWaiting, owners_processing}
 use Rattle.model_lives.proofs.{Found.any_filter, Loading.any_flat}
 use Rattle.sql_tables.specs.{Layouts.challenge_layout, Sorted.sorted_by}
 use Rattle.sql_tables.proofs.Sorting.{filter_ascending, sorted_moves}
-use Rattle.sql_read.proofs.{Lists.filter-map, UnderLemmas.authorizations_have, UnderLemmas.own_ascend}
+use Rattle.sql_read.proofs.UnderLemmas.{authorizations_have, own_ascend}
 use Rattle.sql_read.specs.Under.{rows_under}
 
 -- a challenge that waits

@@ -1,31 +1,30 @@
 -- What the readings of whole tables give in either format; they fail for memory or the disk alone.
-use Rattle.std.proofs.Common.{◌≡◌, ℕ, ◌∷◌, ◌++◌, [], List, map, true, filter, refl, sym, ap, subst, ◌∙◌, arith}
+use Rattle.std.proofs.Common.{◌≡◌, ℕ, ◌∷◌, ◌++◌, [], List, map, true, refl, sym, ap, subst, ◌∙◌, arith}
 use Rattle.std.proofs.lemmas.List.Sorted.{All-permutation, IsPermutation-map, IsPermutation-sym, IsPermutation-trans}
 use Rattle.std.proofs.{lemmas.List.map-id, lemmas.Simd.map-map}
 use Rattle.std.specs.List.Sorted.{IsPermutation}
-use Rattle.sqlite.specs.{Held.Held, Held.state, Given.HasGiven, Schema.Schema, State.Shown, Store.Ghosts, declared.types.Value.TheVariants.Int}
+use Rattle.sqlite.specs.{Held.Held, Held.state, Given.HasGiven, Schema.Schema, State.Shown, Store.Ghosts}
 use Rattle.sqlite.proofs.Callers.{begins_shown, given_begin}
 use Rattle.sqlite_value.specs.{Order.Row, declared.keys.Key.Key}
-use Rattle.sqlite_sql.specs.{Term.Term, Query.Output}
-use Rattle.store_columns.specs.{Columns.listed_columns, Flat.challenge_rows, Flat.key_rows, Flat.listed_rows, declared.columns.Owned.Owned}
+use Rattle.sqlite_sql.specs.{Program.overlay, Query.matches, Query.output, Term.Term}
+use Rattle.store_columns.specs.{Columns.listed_columns, Flat.challenge_rows, Flat.key_rows, Flat.listed_rows}
 use Rattle.model_laws.proofs.Basics.{each_all, each_of_map}
-use Rattle.desk_model.specs.{Kept.EachOf, Tables.Tables, declared.rows.Listed.Listed}
+use Rattle.desk_model.specs.{Kept.EachOf, Tables.Tables}
 use Rattle.sql_tables.specs.Layouts.{IsRising, challenge_layout, key_layout, order_layout}
-use Rattle.sql_tables.specs.{Hidden.hidden, Hidden.row_of, Holds.Holds, Holds.HoldsListed, Images.listed_cells, Images.listed_params, Sorted.sorted_by}
+use Rattle.sql_tables.specs.{Hidden.hidden, Hidden.row_of, Holds.Holds, Holds.HoldsListed, Images.listed_cells, Sorted.sorted_by}
 use Rattle.store_book.specs.IsBook.{IsBook}
 use Rattle.sql_read.specs.{BookShown.HoldsIn, Shown.IsShown, Checking.AreFirst, Checking.ShowsOnly, Failures.HasTexts, Failures.IsReadable, Spelled.FitsListed}
 use Rattle.sql_read.specs.{Spelled.listed_in, declared.formats.Format.Format, declared.formats.Format.TheVariants.First}
 use Rattle.sql_read.specs.{declared.formats.Format.TheVariants.Second}
-use Rattle.sql_read.proofs.Answered.{IsReading, all_rows, answers, by, compiled_alone, picked, shown_in_order, shown_somehow}
+use Rattle.sql_read.proofs.Answered.{IsReading, all_rows, answers_from, by, compiled_alone, matched, one, picked, shown_by, shown_somehow}
 use Rattle.sql_read.proofs.KeptRows.{accounts_kept, authorizations_kept, challenges_kept, format_kept, keys_kept, nonces_kept, number_of, orders_kept}
 use Rattle.sql_read.proofs.KeptRows.{schema_of}
-use Rattle.sql_read.proofs.KeyedReadings.{HasRowsIn, columns_of, shown_whole}
 use Rattle.sql_read.proofs.Readings.{accounts_reading, authorizations_reading, challenges_reading, keys_reading, listed_reading, meta_reading, nonces_reading}
 use Rattle.sql_read.proofs.Readings.{orders_reading}
-use Rattle.sql_read.proofs.TableColumns.{all_fit, listed_back, listed_fits, listed_project}
-use Rattle.sql_read.proofs.TableFacts.{IsReadingOf, TableFacts, account_facts, authorization_facts, challenge_facts, columns, key_facts, formatted_facts}
-use Rattle.sql_read.proofs.TableFacts.{nonce_facts, order_facts}
-use Rattle.sql_read.proofs.{ListedOrder.listed_strictly, ListedOrder.placed, Failing.reading_fails, FoundRows.Keeps, Lists.filter-all}
+use Rattle.sql_read.proofs.TableFacts.{IsReadingOf, RowFacts, TableFacts, account_facts, all_fit, authorization_facts, cells, challenge_facts, columns}
+use Rattle.sql_read.proofs.TableFacts.{columns_of, formatted_facts, key_facts, listed_facts, nonce_facts, order_facts}
+use Rattle.sql_read.proofs.{ListedOrder.listed_strictly, ListedOrder.placed, Failing.reading_fails, FoundRows.Keeps, KeyedReadings.HasRowsIn}
+use Rattle.sql_read.proofs.{KeyedReadings.shown_whole, Lists.filter-all, TableColumns.listed_project}
 use Rattle.sql_schema.specs.declared.accounts.TheConstants as account
 use Rattle.sql_schema.specs.declared.authorizations.TheConstants as authz
 use Rattle.sql_schema.specs.declared.challenges.TheConstants as chall
@@ -45,84 +44,77 @@ unfolding HasGiven
 given_front g text reading conn given there gives = grind (arith, compiled_alone, begins_shown, (given_begin g text [] conn given gives))
 
 -- and so the first of a table's rows
-first_rows : {X R C : Type 0} (bare : X → R) (write : R → C) (spelled : Row → C) (row : C → Row) → ((c : C) → spelled (row c) ≡ c)
-    → (HasText : C → Type 0) (Fits : Row → Type 0) → ((c : C) → HasText c → Fits (row c)) → (given tail : List Row) (xs : List X)
-    → given ++ tail ≡ map (λ x. row (write (bare x))) xs → EachOf (λ x. HasText (write (bare x))) xs → AreFirst spelled write Fits given (map bare xs)
-first_rows bare write spelled row back HasText Fits fits [] tail xs same texts = tt
-first_rows bare write spelled row back HasText Fits fits (r ∷ given) tail [] same texts = absurd (cc same)
-first_rows bare write spelled row back HasText Fits fits (r ∷ given) tail (x ∷ xs) same texts =
-    let one : r ≡ row (write (bare x)) = cc same in
-    let others : given ++ tail ≡ map (λ x. row (write (bare x))) xs = cc same in (
-      ap spelled one ∙ back (write (bare x)),
-      subst Fits (sym one) (fits (write (bare x)) texts.0),
-      first_rows bare write spelled row back HasText Fits fits given tail xs others texts.1,
+first_rows : {X R C : Type 0} (r : RowFacts X R C) (given tail : List Row) (xs : List X) → given ++ tail ≡ map (cells r) xs
+    → EachOf (λ x. r.HasText (columns r x)) xs → AreFirst r.spelled r.write r.Fits given (map r.bare xs)
+first_rows r [] tail xs same texts = tt
+first_rows r (row ∷ given) tail [] same texts = absurd (cc same)
+first_rows r (row ∷ given) tail (x ∷ xs) same texts =
+    let one : row ≡ cells r x = cc same in
+    let others : given ++ tail ≡ map (cells r) xs = cc same in (
+      ap r.spelled one ∙ r.back (columns r x),
+      subst r.Fits (sym one) (r.fits (columns r x) texts.0),
+      first_rows r given tail xs others texts.1,
     )
 
 -- ---- a table by number
 
 -- over the database of this connection a reading of a whole table shows these rows alone, and fails for memory or the disk alone
 pub record IsWhole {S X R C : Type 0} (g : Ghosts S) (t : TableFacts X R C) (text : List ℕ) (here : Held S) (T : Tables) (xs : List X) : Type 0 where
-  pub columns_are : (all : List C) → IsShown g text t.spelled here all → all ≡ map (columns t) xs
+  pub columns_are : (all : List C) → IsShown g text t.spelled here all → all ≡ map (columns t.rows) xs
   pub readable : HasTexts T → IsReadable g here text t.Fits
   pub only : HasTexts T → ShowsOnly g text t.spelled t.write t.Fits (state g here).now (map t.bare xs)
 
 -- one does
-pub whole : {S X R C : Type 0} (g : Ghosts S) (t : TableFacts X R C) (text : List ℕ) (here : Held S) (T : Tables) (xs : List X) {schema : Schema}
+pub whole : {S X R C : Type 0} (g : Ghosts S) (t : TableFacts X R C) {text : List ℕ} (here : Held S) (T : Tables) {xs : List X} {schema : Schema}
     → IsReadingOf t schema all_rows text [] [] → Keeps schema t (state g here).now T xs → IsWhole g t text here T xs
-whole {S} {X} {R} {C} g t text here T xs {schema} reading keeps =
+whole {S} {X} {R} {C} g t {text} here T {xs} {schema} reading keeps =
     let moved : (before : Held S) → (state g before).now ≡ (state g here).now → HasRowsIn schema t.layout (state g before).now xs =
     λ before same. subst (λ db. HasRowsIn schema t.layout db xs) (sym same) keeps.rows in
+    let shown : (before after : Held S) (rows : List Row) → (state g before).now ≡ (state g here).now → Shown text [] (state g before) (state g after) rows
+    → rows ≡ map (cells t.rows) xs =
+    λ before after rows same h. shown_whole t reading (state g before) (state g after) xs rows (moved before same) h in
     record {
-      columns_are = λ all it.
-          it.columns ∙ columns_of t.spelled t.is.row (columns t) t.is.back xs it.rows
-          (shown_whole t text reading (state g it.before) (state g it.after) xs it.rows (moved it.before it.same) it.shown);
+      columns_are = λ all it. it.columns ∙ columns_of t.rows xs it.rows (shown it.before it.after it.rows it.same it.shown);
       readable = λ texts before after e same may.
-          reading_fails text t.layout.table.tree t.project (by 0 ∷ []) reading (state g before) (state g after) (moved before same).there e t.Fits may
-          (λ rows h.
-          all_fit (columns t) t.is.row t.HasText t.Fits t.fits xs rows (keeps.texts texts)
-          (shown_whole t text reading (state g before) (state g after) xs rows (moved before same) h));
+          reading_fails reading (state g before) (state g after) (moved before same).there e t.Fits may
+          (λ rows h. all_fit t.rows xs rows (keeps.texts texts) (shown before after rows same h));
       only = λ texts. record {
         first = λ conn given same gives.
             let it = given_front g text reading conn given (moved conn same).there gives in
-            first_rows t.bare t.write t.spelled t.is.row t.is.back t.HasText t.Fits t.fits given it.0 xs
-            (shown_whole t text reading (state g conn) (state g conn) xs (given ++ it.0) (moved conn same) it.1)
-            (each_of_map t.HasText (columns t) xs (keeps.texts texts));
-        whole = λ old new given same h.
-            columns_of t.spelled t.is.row (columns t) t.is.back xs given
-            (shown_whole t text reading (state g old) (state g new) xs given (moved old same) h)
-            ∙ sym (map-map t.write t.bare xs);
+            first_rows t.rows given it.0 xs (shown conn conn (given ++ it.0) same it.1) (each_of_map t.HasText (columns t.rows) xs (keeps.texts texts));
+        whole = λ old new given same h. columns_of t.rows xs given (shown old new given same h) ∙ sym (map-map t.write t.bare xs);
       };
     }
 
 module _ {S : Type 0} (g : Ghosts S) (here : Held S) (T : Tables) (format : Format) (has : HoldsIn format (state g here).now T) where
   -- `meta`
   pub meta_whole : IsWhole g formatted_facts meta.SELECT.now here T ((number_of format, T.meta) ∷ [])
-  meta_whole = whole g formatted_facts _ here T _ (meta_reading format) (format_kept _ T format has)
+  meta_whole = whole g formatted_facts here T (meta_reading format) (format_kept _ T format has)
 
   -- `nonce`
   pub nonces_whole : IsWhole g nonce_facts nonce.SELECT.now here T T.nonces
-  nonces_whole = whole g nonce_facts _ here T _ (nonces_reading format) (nonces_kept _ T format has)
+  nonces_whole = whole g nonce_facts here T (nonces_reading format) (nonces_kept _ T format has)
 
   -- `account`
   pub accounts_whole : IsWhole g account_facts account.SELECT.now here T T.accounts
-  accounts_whole = whole g account_facts _ here T _ (accounts_reading format) (accounts_kept _ T format has)
+  accounts_whole = whole g account_facts here T (accounts_reading format) (accounts_kept _ T format has)
 
   -- `ord`
   pub orders_whole : IsWhole g order_facts ord.SELECT.now here T T.orders
-  orders_whole = whole g order_facts _ here T _ (orders_reading format) (orders_kept _ T format has)
+  orders_whole = whole g order_facts here T (orders_reading format) (orders_kept _ T format has)
 
   -- `authz`
   pub authorizations_whole : IsWhole g authorization_facts authz.SELECT.now here T T.authorizations
-  authorizations_whole = whole g authorization_facts _ here T _ (authorizations_reading format) (authorizations_kept _ T format has)
+  authorizations_whole = whole g authorization_facts here T (authorizations_reading format) (authorizations_kept _ T format has)
 
   -- `chall`
   pub challenges_whole : IsWhole g challenge_facts chall.SELECT.now here T (sorted_by challenge_layout.key (challenge_rows T.authorizations))
-  challenges_whole = whole g challenge_facts _ here T _ (challenges_reading format) (challenges_kept _ T format has)
+  challenges_whole = whole g challenge_facts here T (challenges_reading format) (challenges_kept _ T format has)
 
 -- `chall_key`
 pub keys_whole : {S : Type 0} (g : Ghosts S) (here : Held S) (T : Tables) → Holds (state g here).now T
     → IsWhole g key_facts chall_key.SELECT.now here T (sorted_by key_layout.key (key_rows (challenge_rows T.authorizations)))
-keys_whole g here T has = whole g key_facts _ here T _ keys_reading (keys_kept _ T has)
+keys_whole g here T has = whole g key_facts here T keys_reading (keys_kept _ T has)
 
 -- ---- what orders list
 
@@ -138,31 +130,36 @@ module _ {S : Type 0} (g : Ghosts S) (here : Held S) (T : Tables) (format : Form
       → ((state g before).now.schema ≡ schema_of format) × HoldsListed ((state g before).now.trees 6) (listed_rows T.orders)
   listed_at before same = listed_in_format format before (subst (λ db. HoldsIn format db T) (sym same) has)
 
+  -- so it matches its reading
+  listed_match : (before : Held S) → (same : (state g before).now ≡ (state g here).now)
+      → map (output (picked 6 [] listed_project (by 1 ∷ by 2 ∷ []))) (matches (overlay (state g before).now.trees []) [] (one 6) ([] ∷ []))
+      ≡ map placed (map row_of (listed_at before same).1.numbered)
+  listed_match before same =
+      let held = (listed_at before same).1 in
+      matched (hidden listed_cells) row_of 6 [] listed_project (by 1 ∷ by 2 ∷ []) [] (λ _. true) placed (λ _. refl) (λ _. refl) (λ _. refl)
+      (state g before).now.trees held.numbered held.has
+      ∙ ap (map placed) (filter-all (map row_of held.numbered))
+
   -- it is shown in some order
   listed_cells_shown : (before after : Held S) (rows : List Row) → (state g before).now ≡ (state g here).now
       → Shown ord_authz.SELECT.now [] (state g before) (state g after) rows → IsPermutation (map listed_cells (listed_rows T.orders)) rows
   listed_cells_shown before after rows same h =
-      let order = by 1 ∷ by 2 ∷ [] in
-      let held = (listed_at before same).1 in
-      let ts = held.numbered in
-      let placed : Owned Listed → Output = λ l. (Int (listed_columns l).ord ∷ Int (listed_columns l).place ∷ [], listed_cells l) in
-      let answered = answers (hidden listed_cells) row_of 6 [] listed_project order [] (λ _. true) placed (λ _. refl) (λ _. refl)
-      ord_authz.SELECT.now (listed_reading format) (λ _. refl) (state g before) (state g after) ts rows (listed_at before same).0 held.has h in
-      let ls = filter (λ _. true) (map row_of ts) in
-      let some = shown_somehow (picked 6 [] listed_project order) placed ls rows answered in
-      let cells = subst (λ ls. IsPermutation (map listed_cells ls) rows) (filter-all (map row_of ts)) some in
-      IsPermutation-trans (map listed_cells (listed_rows T.orders)) (map listed_cells (map row_of ts)) rows
-      (IsPermutation-map listed_cells (listed_rows T.orders) (map row_of ts) (IsPermutation-sym (map row_of ts) (listed_rows T.orders) held.same)) cells
+      let there = listed_at before same in
+      let ts = there.1.numbered in
+      let ls = listed_rows T.orders in
+      let it = answers_from (listed_reading format) (state g before) (state g after) there.0 (listed_match before same) rows h in
+      subst (IsPermutation (map listed_cells ls)) (sym it.2)
+      (IsPermutation-trans (map listed_cells ls) (map listed_cells (map row_of ts)) it.0
+      (IsPermutation-map listed_cells ls (map row_of ts) (IsPermutation-sym (map row_of ts) ls there.1.same))
+      (shown_somehow (picked 6 [] listed_project (by 1 ∷ by 2 ∷ [])) placed (map row_of ts) it.0 it.1))
 
   -- its reading fails for memory or the disk alone
   pub listed_readable : IsReadable g here ord_authz.SELECT.now FitsListed
   listed_readable before after e same may =
-      reading_fails ord_authz.SELECT.now 6 listed_project (by 1 ∷ by 2 ∷ []) (listed_reading format) (state g before) (state g after)
-      (listed_at before same).0 e FitsListed may (λ rows h.
+      reading_fails (listed_reading format) (state g before) (state g after) (listed_at before same).0 e FitsListed may (λ rows h.
       let ls = listed_rows T.orders in
-      let all = all_fit listed_columns listed_params (λ _. Unit {0}) FitsListed listed_fits ls (map listed_cells ls)
-      (each_all (λ _. Unit {0}) (map listed_columns ls) (λ _. tt)) refl in
-      All-permutation FitsListed (map listed_cells ls) rows (listed_cells_shown before after rows same h) all)
+      All-permutation FitsListed (map listed_cells ls) rows (listed_cells_shown before after rows same h)
+      (all_fit listed_facts ls (map listed_cells ls) (each_all (λ _. Unit {0}) (map listed_columns ls) (λ _. tt)) refl))
 
 module _ {S : Type 0} (g : Ghosts S) (here : Held S) (T : Tables) (format : Format) (has : HoldsIn format (state g here).now T) (book : IsBook T) where
   -- the numbers of the orders rise
@@ -174,16 +171,9 @@ module _ {S : Type 0} (g : Ghosts S) (here : Held S) (T : Tables) (format : Form
   listed_in_turn : (before after : Held S) (rows : List Row) → (state g before).now ≡ (state g here).now
       → Shown ord_authz.SELECT.now [] (state g before) (state g after) rows → rows ≡ map listed_cells (listed_rows T.orders)
   listed_in_turn before after rows same h =
-      let order = by 1 ∷ by 2 ∷ [] in
       let there = listed_at g here T format has before same in
-      let held = there.1 in
-      let ts = held.numbered in
-      let ls = listed_rows T.orders in
-      shown_in_order (picked 6 [] listed_project order) placed (filter (λ _. true) (map row_of ts)) ls rows
-      (subst (λ l. IsPermutation l ls) (sym (filter-all (map row_of ts))) held.same)
-      (listed_strictly [] 0 T.orders (numbers_rise format here has) book.in_order.places)
-      (answers (hidden listed_cells) row_of 6 [] listed_project order [] (λ _. true) placed (λ _. refl) (λ _. refl)
-      ord_authz.SELECT.now (listed_reading format) (λ _. refl) (state g before) (state g after) ts rows there.0 held.has h)
+      shown_by (listed_reading format) (state g before) (state g after) there.0 (listed_match g here T format has before same) placed (listed_rows T.orders)
+      (IsPermutation-map placed _ _ there.1.same) (listed_strictly 0 T.orders (numbers_rise format here has) book.in_order.places) rows h
 
   -- and alone
   pub listed_only : ShowsOnly g ord_authz.SELECT.now listed_in listed_columns FitsListed (state g here).now (listed_rows T.orders)
@@ -193,8 +183,6 @@ module _ {S : Type 0} (g : Ghosts S) (here : Held S) (T : Tables) (format : Form
         first = λ conn given same gives.
             let it = given_front g ord_authz.SELECT.now (listed_reading format) conn given (listed_at g here T format has conn same).0 gives in
             subst (AreFirst listed_in listed_columns FitsListed given) (map-id ls)
-            (first_rows (λ l. l) listed_columns listed_in listed_params listed_back (λ _. Unit {0}) FitsListed listed_fits given it.0 ls
-            (listed_in_turn conn conn (given ++ it.0) same it.1) (each_all (λ _. Unit {0}) ls (λ _. tt)));
-        whole = λ old new given same h.
-            columns_of listed_in listed_params listed_columns listed_back ls given (listed_in_turn old new given same h);
+            (first_rows listed_facts given it.0 ls (listed_in_turn conn conn (given ++ it.0) same it.1) (each_all (λ _. Unit {0}) ls (λ _. tt)));
+        whole = λ old new given same h. columns_of listed_facts ls given (listed_in_turn old new given same h);
       }

@@ -52,6 +52,7 @@ fn check_row<C: Selected, K: RowCheck<C>>(
 
 // Whether each row that a query shows passes, one after the other; the first that does not ends the query. More rows than can be
 // counted fail as what memory has no room for.
+#[tactic(auto, using(crate::proofs::Streaming::asks_begun, crate::proofs::Streaming::asks_refused, crate::proofs::Streaming::begun_query, crate::proofs::Results::failed_as, crate::proofs::Streaming::given_all, crate::proofs::Streaming::given_none, std::proofs::Common::inl, std::proofs::Common::inr, crate::proofs::MetFaults::met_behind, crate::proofs::Streaming::met_refused, crate::proofs::MetFaults::query_met, crate::proofs::Streaming::refused_query, crate::proofs::Streaming::stops_all))]
 fn check_each<S: Alter, C: Selected, K: RowCheck<C>>(
     alloc: Global,
     conn: &mut Connection<S>,

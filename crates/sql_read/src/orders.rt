@@ -120,6 +120,7 @@ impl Parted for OrderRow {
 
     ghost HasItsPart = { λ T. HasItsListed T.orders };
 
+    #[tactic(auto, using(crate::proofs::Results::failed_as, crate::proofs::Looking::finds_as, crate::proofs::ListedOrder::listed_by_find, crate::proofs::LookUpReadings::listed_by_reading, crate::proofs::Looking::query_as, crate::proofs::Looking::step_failed, crate::proofs::Looking::step_made))]
     fn complete<S: Alter>(
         self,
         alloc: Global,

@@ -1,14 +1,13 @@
 -- What each of the statements means, computed from its text.
 use Rattle.std.proofs.Common.{◌≡◌, ℕ, zero, suc, ◌+◌, ◌<◌, Some, Ok, slice_get, false, inl, inr, [], ◌∷◌, codes, refl, arith}
 use Rattle.std.proofs.lemmas.Bool.Decides.{nat_tests}
-use Rattle.sqlite_schema.specs.declared.schema.{Table.Table, Index.Index}
-use Rattle.sqlite_schema.specs.declared.command.Command.TheVariants.{CreateTable, CreateIndex}
+use Rattle.sqlite_schema.specs.{declared.schema.Table.Table, declared.schema.Index.Index, declared.command.Command.TheVariants.CreateTable}
+use Rattle.sqlite_schema.specs.declared.command.Command.TheVariants.{CreateIndex}
 use Rattle.sqlite.specs.{Compile.table_defined_by, Compile.index_defined_by, Change.created, Change.indexed, Does.lacks_sequence, Listing.understood}
 use Rattle.sqlite.proofs.Callers.{IsPlain, command_of, statement_of}
 use Rattle.sqlite_tied.specs.Compute.{everything}
-use Rattle.sql_schema.specs.Definitions.{definition_at}
-use Rattle.sql_schema.specs.Schema.{schema_at, index_as, meta_table, nonce_table, account_table}
-use Rattle.sql_schema.specs.Schema.{ord_table, authz_table, ord_authz_table, chall_table, chall_key_table}
+use Rattle.sql_schema.specs.{Definitions.definition_at, Schema.schema_at, Schema.index_as, Schema.meta_table, Schema.nonce_table, Schema.account_table}
+use Rattle.sql_schema.specs.{Schema.ord_table, Schema.authz_table, Schema.ord_authz_table, Schema.chall_table, Schema.chall_key_table}
 use Rattle.sql_schema.proofs.Making.{Makes, MakesTable, MakesIndex}
 
 -- the statement at a place makes this table, each fact computed

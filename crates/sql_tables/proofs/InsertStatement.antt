@@ -2,7 +2,7 @@
 use Rattle.std.specs.Prelude.{find, ◌==◌}
 use Rattle.std.proofs.Common.{◌≡◌, ℕ, ℤ, pos, ◌+◌, ◌&&◌, List, [], ◌∷◌, map, length, ◌/◌, not, Bool, true, false, None, Ok, sym, ap, subst, ◌∙◌, arith, rules}
 use Rattle.sqlite.specs.Rows.{Inserts, Task, Written, count_of, rowids_for, stamped}
-use Rattle.sqlite.specs.{declared.types.Value.TheVariants.Int, Effect.Database, Effect.value_rows, State.State, State.Executes}
+use Rattle.sqlite.specs.{declared.types.Value.TheVariants.Int, Effect.value_rows, State.State, State.Executes}
 use Rattle.sqlite_value.specs.Order.{Row}
 use Rattle.sqlite_trees.specs.Tree.{Trees, put_row, rowid}
 use Rattle.sqlite_sql.specs.Term.{Term}
@@ -10,10 +10,10 @@ use Rattle.sqlite_schema.specs.declared.command.{Command.TheVariants.Insert, Sou
 use Rattle.sqlite_rules.specs.{Cast.cast_row, Edit.are_fresh, Edit.edit_of, Edit.edited, Edit.is_taken, Edit.put_all, Edit.taken_by, Edit.with_rowid}
 use Rattle.sqlite.proofs.Callers.{one_step}
 use Rattle.sql_schema.proofs.Making.{same_value, went}
-use Rattle.sql_tables.specs.{Effects.Adds, Effects.Puts, Layouts.Layout}
+use Rattle.sql_tables.specs.{Effects.Adds, Layouts.Layout}
 use Rattle.sql_tables.proofs.Inserts.{Carries, Means, NoWorks, becomes, carries, has_done, no_works, ran, task_of}
-use Rattle.sql_tables.proofs.{Keyed.put_ascends, Keyed.put_row_as, Keyed.untaken, Upsert.IsPut, Upsert.keeps_id, Upsert.uncounts, UpsertStatement.IsUpsert}
-use Rattle.sql_tables.proofs.{UpsertStatement.inserted_terms}
+use Rattle.sql_tables.proofs.{Keyed.put_ascends, Keyed.put_row_as, Keyed.untaken, Upsert.IsPut, Upsert.uncounts, UpsertStatement.IsUpsert}
+use Rattle.sql_tables.proofs.UpsertStatement.{comes, inserted_terms}
 
 -- the text inserts the row that the other text puts
 abbrev pub IsInsert : {X : Type 0} (L : Layout X) {params : X → Row} {upsert : List ℕ} → IsUpsert L params upsert → List ℕ → Type 0
@@ -61,17 +61,12 @@ inserts_by : {X : Type 0} (L : Layout X) (params : X → Row) {upsert : List ℕ
 inserts_by L params is text it old new x count h xs has =
     let did = has_done text (params x) _ old new count has.schema (ran text (params x) _ old new count it has.schema h) in
     let done = went (rw (is.table.found) at did.did) in
-    let tree = old.now.trees L.table.tree in
     let put = inserts_row L.key L.image is.table.first (task_of old L.table (params x)) (no_works L.table.tree) old.now.trees xs x (inserted_terms is.more)
-    (is.more + 2) (L.image x) done.0 is.table.uncounted has.rows_are (is.source x) (λ top. ap (with_rowid (rowids_for L.table top) tree) (is.casts x)
-    ∙ keeps_id (rowids_for L.table top) tree (L.image x) (pos (L.key x)) (is.table.first x)) done.1 in
+    (is.more + 2) (L.image x) done.0 is.table.uncounted has.rows_are (is.source x)
+    (λ top. comes L params _ is x (rowids_for L.table top) (old.now.trees L.table.tree)) done.1 in
     (put.0, becomes L old new (params x) _ done.0 did.tally did.sound done.2 (put_ascends L.key 0 x xs (omega arith) has.rising) put.1)
 
--- a row that was added is put
-pub added_puts : {X : Type 0} (L : Layout X) (row : X) (old new : Database) → Adds L row old new → Puts L row old new
-added_puts L row old new adds rows has = (adds rows has).1
-
--- and it does so inside a transaction, too
+-- it does so inside a transaction, too
 pub advances_inserted : {X : Type 0} (L : Layout X) (params : X → Row) {upsert : List ℕ} (is : IsUpsert L params upsert) (text : List ℕ)
     → IsInsert L is text → Carries text params (Adds L)
 advances_inserted L params is text it = carries text params (Adds L) (inserts_by L params is text it)

@@ -156,42 +156,27 @@ module _ {X : Type 0} (key : X → ℕ) where
         go true more = more
         go false more = ap (λ rs. row x ∷ rs) more
 
-    -- the key of a row that has a number
-    key_of : (n : ℕ) (x : X) (r : Row) → r ≡ row x → rowid r ≡ Int (pos n) → key x ≡ n
-    key_of n x r here is = let e : Int (pos (key x)) ≡ Int (pos n) = sym (first x) ∙ sym (ap rowid here) ∙ is in cc
+  -- no row is below the first
+  pub has_from : (m : ℕ) (xs : List X) (y : X) → Ascends key m xs → Has xs y → m ≤ key y
+  has_from m [] y up h = absurd h
+  has_from m (x ∷ xs) y up (inl here) = let same : key y ≡ key x = ap key here in omega (arith, up.0)
+  has_from m (x ∷ xs) y up (inr there) = let after = has_from (key x + 1) xs y up.1 there in omega (arith, up.0)
 
-    -- it is not among rows above the number
-    nowhere : (n : ℕ) (ys : List X) (r : Row) → rowid r ≡ Int (pos n) → Ascends key (n + 1) ys → Has (map row ys) r → ⊥
-    nowhere n [] r is up h = h
-    nowhere n (y ∷ ys) r is up (inl here) = let k = key_of n y r here is in omega (arith, k, up.0)
-    nowhere n (y ∷ ys) r is up (inr there) = nowhere n ys r is (ascends_from key (n + 1) (key y + 1) ys (omega (arith, up.0)) up.1) there
-
-    -- the row that has the key is the only one
-    pub one_with : (n m : ℕ) (xs : List X) → Ascends key m xs → (r : Row) → Has (map row xs) r → rowid r ≡ Int (pos n)
-        → (x : X) × (key x ≡ n) × (with_key n xs ≡ x ∷ []) × (r ≡ row x)
-    one_with n m [] up r in_it is = absurd in_it
-    one_with n m (x ∷ xs) up r (inl here) is =
-        let k = key_of n x r here is in (
-          x,
-          k,
-          elim (ranked (key x) n) [
-            | inl less ↦ absurd (omega (arith, k, less.low))
-            | inr (inl tied) ↦ rw (tied.ranks) (ap (λ ys. x ∷ ys) (none_with n xs (subst (λ k. Ascends key (k + 1) xs) k up.1)))
-            | inr (inr more) ↦ absurd (omega (arith, k, more.high))
-          ],
-          here,
-        )
-    one_with n m (x ∷ xs) up r (inr there) is =
-        let it = one_with n (key x + 1) xs up.1 r there is in (
-          it.0,
-          it.1,
-          elim (ranked (key x) n) [
-            | inl less ↦ rw (less.ranks) it.2
-            | inr (inl tied) ↦ absurd (nowhere n xs r is (subst (λ k. Ascends key (k + 1) xs) tied.same up.1) there)
-            | inr (inr more) ↦ absurd (nowhere n xs r is (above n (key x) xs (omega (arith, more.high)) up.1) there)
-          ],
-          it.3,
-        )
+  -- a row is the only one that has its key
+  pub alone_with : (m : ℕ) (xs : List X) (x : X) → Ascends key m xs → Has xs x → with_key (key x) xs ≡ x ∷ []
+  alone_with m [] x up h = absurd h
+  alone_with m (y ∷ ys) x up (inl here) = subst (λ z. with_key (key z) (y ∷ ys) ≡ z ∷ []) (sym here) (elim (ranked (key y) (key y)) [
+    | inl less ↦ absurd (omega (arith, less.low))
+    | inr (inl tied) ↦ rw (tied.ranks) (ap (λ zs. y ∷ zs) (none_with (key y) ys up.1))
+    | inr (inr more) ↦ absurd (omega (arith, more.high))
+  ])
+  alone_with m (y ∷ ys) x up (inr there) =
+      let after = has_from (key y + 1) ys x up.1 there in
+      elim (ranked (key y) (key x)) [
+        | inl less ↦ rw (less.ranks) (alone_with (key y + 1) ys x up.1 there)
+        | inr (inl tied) ↦ absurd (omega (arith, after, tied.same))
+        | inr (inr more) ↦ absurd (omega (arith, after, more.high))
+      ]
 
   -- a key stands once or not at all
   pub one_or_none : (n m : ℕ) (xs : List X) → Ascends key m xs → (with_key n xs ≡ []) ⊎ ((x : X) × (key x ≡ n) × (with_key n xs ≡ x ∷ []))

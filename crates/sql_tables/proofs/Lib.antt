@@ -2,7 +2,6 @@ pub mod AnswerKeys
 pub mod Casts
 pub mod Clashes
 pub mod Found
-pub mod HiddenUpsert
 pub mod Holding
 pub mod InsertStatement
 pub mod Inserts
@@ -11,7 +10,6 @@ pub mod ListedUpsert
 pub mod NoIndexes
 pub mod Removal
 pub mod Sorting
-pub mod Unmoved
 pub mod UpdateStatement
 pub mod Upsert
 pub mod UpsertStatement

@@ -1,15 +1,11 @@
 -- Which trees a statement on one table leaves as they were.
 use Rattle.std.specs.{List.list_all, Prelude.◌==◌}
-use Rattle.std.proofs.Common.{◌≡◌, ◌≢◌, ℕ, List, [], ◌∷◌, ◌&&◌, ◌++◌, not, Bool, true, ◌∙◌, arith}
-use Rattle.std.proofs.lemmas.Bool.{and_parts, eq-eqb}
+use Rattle.std.proofs.Common.{◌≡◌, ℕ, List, [], ◌∷◌, ◌&&◌, ◌++◌, not, Bool, true, ◌∙◌, arith}
+use Rattle.std.proofs.lemmas.Bool.{and_parts}
 use Rattle.sqlite.specs.Effect.{Database}
 use Rattle.sqlite_schema.specs.declared.schema.Index.{Index}
 use Rattle.sql_schema.specs.Schema.{desk_schema}
 use Rattle.sql_tables.specs.Effects.{KeepsOthers}
-
--- numbers that are found unlike
-unlike : (a b : ℕ) → not (a == b) ≡ true → a ≢ b
-unlike a b is same = let tied = eq-eqb a b same in absurd (cc (is, tied))
 
 -- the tree is that of none of these indexes
 abbrev of_none : ℕ → List Index → Bool

@@ -37,7 +37,7 @@ meta_upsert =
     (λ _. row_kept meta_table _ _
     (and cast_null (and (cast_int _) (and refl (and (cast_int _) (and (cast_int _) (and (cast_int _) (and (cast_int _) (and (cast_int _) (and (cast_int _) (and
     (cast_int _) (and (cast_int _) (and (cast_int _) tt)))))))))))))
-    (clash_by_key formatted_layout (λ _. refl)) (λ _. refl) (sets_key formatted_layout) (λ _. refl)
+    (clash_by_key formatted_layout (λ _. refl)) (λ _ _. refl) (sets_key formatted_layout) (λ _. refl)
 
 -- that renews one, in the columns that calls move
 pub meta_update : IsUpdate formatted_layout meta_upsert (λ row. meta_updates (formatted_columns row)) (λ row. meta_kept (formatted_columns row))
@@ -72,7 +72,7 @@ unfolding understood everything
 nonce_upsert =
     upsert_as nonce_layout _ _ 1 2 refl (refl, refl) refl refl (λ _. refl) (λ _. refl)
     (λ _. row_kept nonce_table _ _ (cast_null, (refl, (cast_int _, tt))))
-    (clash_by_key nonce_layout (λ _. refl)) (λ _. refl) (sets_key nonce_layout) (λ _. refl)
+    (clash_by_key nonce_layout (λ _. refl)) (λ _ _. refl) (sets_key nonce_layout) (λ _. refl)
 
 -- that inserts one
 pub nonce_insert : IsInsert nonce_layout nonce_upsert nonce.WRITING.0.now
@@ -87,7 +87,7 @@ unfolding understood everything
 account_upsert =
     upsert_as account_layout _ _ 2 6 refl (refl, refl) refl refl (λ _. refl) (λ _. refl)
     (λ _. row_kept account_table _ _ (cast_null, (refl, (refl, (cast_int _, (cast_int_or_null _, (cast_text_or_null _, (refl, tt))))))))
-    (clash_by_key account_layout (λ _. refl)) (λ _. refl) (sets_key account_layout) (λ _. refl)
+    (clash_by_key account_layout (λ _. refl)) (λ _ _. refl) (sets_key account_layout) (λ _. refl)
 
 -- that renews one, in the columns that calls move
 pub account_update : IsUpdate account_layout account_upsert (λ row. account_updates (account_columns row))
@@ -117,7 +117,7 @@ order_upsert =
     (λ _. row_kept ord_table _ _
     (and cast_null (and (cast_int _) (and (cast_int _) (and (cast_int _) (and (cast_int_or_null _) (and refl (and (cast_int_or_null _) (and refl (and
     (cast_int_or_null _) (and (cast_text_or_null _) (and refl tt))))))))))))
-    (clash_by_key order_layout (λ _. refl)) (λ _. refl) (sets_key order_layout) (λ _. refl)
+    (clash_by_key order_layout (λ _. refl)) (λ _ _. refl) (sets_key order_layout) (λ _. refl)
 
 -- that renews one, in the columns that calls move
 pub order_update : IsUpdate order_layout order_upsert (λ row. order_updates (order_columns row)) (λ row. order_kept (order_columns row)) ord.WRITING.2.now
@@ -144,7 +144,7 @@ authorization_upsert =
     upsert_as authorization_layout _ _ 4 8 refl (refl, refl) refl refl (λ _. refl) (λ _. refl)
     (λ _. row_kept authz_table _ _
     (cast_null, (cast_int _, (refl, (cast_int _, (cast_int _, (cast_int _, (cast_int_or_null _, (cast_text_or_null _, (refl, tt))))))))))
-    (clash_by_key authorization_layout (λ _. refl)) (λ _. refl) (sets_key authorization_layout) (λ _. refl)
+    (clash_by_key authorization_layout (λ _. refl)) (λ _ _. refl) (sets_key authorization_layout) (λ _. refl)
 
 -- that renews one, in the columns that calls move
 pub authorization_update : IsUpdate authorization_layout authorization_upsert (λ row. authorization_updates (authorization_columns row))
@@ -171,7 +171,7 @@ unfolding understood everything
 challenge_upsert =
     upsert_as challenge_layout _ _ 6 7 refl (refl, refl) refl refl (λ _. refl) (λ _. refl)
     (λ _. row_kept chall_table _ _ (cast_null, (cast_int _, (refl, (refl, (cast_int_or_null _, (cast_int_or_null _, (cast_text_or_null _, (refl, tt)))))))))
-    (clash_by_key challenge_layout (λ _. refl)) (λ _. refl) (sets_key challenge_layout) (λ _. refl)
+    (clash_by_key challenge_layout (λ _. refl)) (λ _ _. refl) (sets_key challenge_layout) (λ _. refl)
 
 -- that renews one, in the columns that calls move
 pub challenge_update : IsUpdate challenge_layout challenge_upsert (λ row. challenge_updates (challenge_columns (bare_row row)))
@@ -198,7 +198,7 @@ unfolding understood everything
 key_upsert =
     upsert_as key_layout _ _ 7 1 refl (refl, refl) refl refl (λ _. refl) (λ _. refl)
     (λ _. row_kept chall_key_table _ _ (cast_null, (refl, tt)))
-    (clash_by_key key_layout (λ _. refl)) (λ _. refl) (sets_key key_layout) (λ _. refl)
+    (clash_by_key key_layout (λ _. refl)) (λ _ _. refl) (sets_key key_layout) (λ _. refl)
 
 -- that inserts one
 pub key_insert : IsInsert key_layout key_upsert chall_key.WRITING.0.now

@@ -25,15 +25,8 @@ key_found authorizations accounts n number among owned =
     (by (find (λ a. a.number == n) authorizations) (found_among (λ (a : AuthorizationRow). a.number) n authorizations among)
     (found_holds (λ a. IsAmong (map (λ t. t.number) accounts) a.account) (λ a. a.number == n) authorizations owned))
   where
-    key_with : Option AccountThumb → Option AnswerKey
-    key_with o = option_map (λ t. record { challenge = number; thumb = t.thumb }) o
-
     key_of : AuthorizationAccount → Option AnswerKey
     key_of a = option_map (λ t. record { challenge = number; thumb = t.thumb }) (find (λ t. t.number == a.account) (map thumb_of accounts))
-
-    there : (o : Option AccountRow) → IsSome o → IsSome (key_with (option_map thumb_of o))
-    there None some = absurd (cc some)
-    there (Some t) some = refl
 
     by : (o : Option AuthorizationRow) → IsSome o → IfSome o (λ a. IsAmong (map (λ t. t.number) accounts) a.account)
         → IsSome (option_and_then key_of (option_map account_of o))

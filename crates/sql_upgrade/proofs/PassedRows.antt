@@ -1,6 +1,5 @@
 -- One row more that passes.
-use Rattle.std.proofs.Common.{◌≡◌, ℕ, ◌++◌, List, [], ◌∷◌, map, Option, rules}
-use Rattle.std.proofs.lemmas.List.{map-append}
+use Rattle.std.proofs.{Common.◌≡◌, Common.ℕ, Common.◌++◌, Common.List, Common.[], Common.◌∷◌, Common.map, Common.Option, Common.rules, lemmas.List.map-append}
 use Rattle.std.specs.Prelude.{filter_map, option_to_list}
 use Rattle.model_laws.specs.Placing.{puts}
 use Rattle.model_laws.proofs.RowLists.{puts_append}

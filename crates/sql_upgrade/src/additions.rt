@@ -29,6 +29,7 @@ pub struct Additions {
 }
 
 // This row with the keys of all answers.
+#[tactic(auto, using(sql_read::proofs::FirstChecked::reads_err, sql_read::proofs::FirstChecked::reads_ok))]
 fn with_keys<S: Alter>(
     alloc: Global,
     conn: &mut Connection<S>,
@@ -46,6 +47,7 @@ fn with_keys<S: Alter>(
 }
 
 // As `read_additions`.
+#[tactic(auto, using(sql_read::proofs::FirstChecked::reads_err, sql_read::proofs::FirstChecked::reads_ok))]
 fn checked_additions<S: Alter>(
     alloc: Global,
     conn: &mut Connection<S>,
@@ -67,6 +69,7 @@ fn checked_additions<S: Alter>(
 /// # Errors
 ///
 /// The engine's; the connection is as it was, or what was not committed is undone.
+#[tactic(auto, using(sql_read::proofs::Results::found_then, crate::proofs::KeyReadings::has_checked_book, crate::proofs::KeyReadings::is_found, sql_read::proofs::Results::none_said, sql_read::proofs::Results::read_then, crate::proofs::KeyReadings::some_said))]
 pub fn read_additions<S: Alter>(
     alloc: Global,
     conn: &mut Connection<S>,

@@ -29,6 +29,7 @@ fn keys_of_challenges<S: Alter>(
 }
 
 // The keys of the challenges of all authorizations, by the thumbprints of the keys of their accounts.
+#[tactic(auto, using(sql_read::proofs::FirstTables::authorizations_selected, sql_read::proofs::FirstTables::first_authorizations, std::proofs::Common::inl, std::proofs::Common::inr, sql_read::proofs::FirstChecked::reads_ok, crate::proofs::KeyReadings::table_failed))]
 fn keys_of_authorizations<S: Alter>(
     alloc: Global,
     conn: &mut Connection<S>,

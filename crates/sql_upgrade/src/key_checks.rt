@@ -82,6 +82,7 @@ impl RowCheck<AccountColumns> for ThumbCheck {
 
     ghost AreAll = { λ first rows. ⊤ };
 
+    #[tactic(auto, using(crate::proofs::PassedRows::put_more))]
     fn passes(&mut self, row: &AccountRow) -> Result<bool, AllocError> {
         self.thumbs.put(thumb_of(row))?;
         Ok(true)
@@ -132,6 +133,7 @@ impl RowCheck<AuthzColumns> for OwnerCheck {
 
     ghost AreAll = { λ first rows. ⊤ };
 
+    #[tactic(auto, using(crate::proofs::PassedRows::put_more))]
     fn passes(&mut self, row: &AuthorizationRow) -> Result<bool, AllocError> {
         self.accounts.put(account_of(row))?;
         Ok(true)
@@ -216,6 +218,7 @@ impl<'a> RowCheck<ChallColumns> for AnswerCheck<'a> {
 
     ghost AreAll = { λ first rows. EachOf (HasKey first.accounts.now first.thumbs.now) rows };
 
+    #[tactic(auto, using(store_book::proofs::Steps::each_at, crate::proofs::KeysThere::key_there, crate::proofs::PassedRows::pick_more))]
     fn passes(&mut self, row: &Owned<BareChallenge>) -> Result<bool, AllocError> {
         let key = self.row_key(row);
         if key.is_none() && row.row.answered.is_some() {

@@ -15,6 +15,7 @@ use sqlite::{Alter, Connection};
 /// # Errors
 ///
 /// As `sql_write::upgrade_tables`.
+#[tactic(auto, using(crate::proofs::FirstDesksKept::committed_as, crate::proofs::FirstDesksKept::desk_brought, crate::proofs::FirstDesksKept::desks_upgrade, crate::proofs::FirstDesksKept::left_as, sqlite::proofs::StateLemmas::survives_weaker))]
 pub fn upgrade<S: Alter>(conn: &mut Connection<S>, additions: &Additions) -> Result<(), SaveFault>
     requires idle { conn.old.in_transaction ≡ false }
     ensures idle { conn.new.in_transaction ≡ false }

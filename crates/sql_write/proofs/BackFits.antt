@@ -1,18 +1,17 @@
 -- Changes that keep children fit one after the other, where no two children are one after all of them.
 use Rattle.std.specs.Prelude.{IfSome, find, ◌==◌}
-use Rattle.std.proofs.Common.{◌≡◌, inl, inr, ℕ, ◌++◌, List, [], ◌∷◌, Some, None, false, refl, sym, ap, ◌∙◌, arith, rules}
-use Rattle.std.proofs.lemmas.List.{append_assoc}
+use Rattle.std.proofs.Common.{◌≡◌, ℕ, ◌++◌, List, [], ◌∷◌, false, arith, rules}
 use Rattle.sqlite.specs.Effect.{Database}
-use Rattle.store_columns.specs.{Flat.challenge_rows, Flat.listed_rows, Flat.owned_by, declared.columns.Owned.Owned}
-use Rattle.model_laws.proofs.{Basics.each_parts, NewChildren.kept_bring_new, RowLists.ascends_filter, RowLists.put_before, RowLists.put_past}
+use Rattle.store_columns.specs.{Flat.challenge_rows, Flat.listed_rows, declared.columns.Owned.Owned}
+use Rattle.model_laws.proofs.{Basics.each-append, Basics.each_parts, NewChildren.kept_bring_new, RowLists.ascends_filter}
 use Rattle.model_laws.specs.{Distinct.Distinct, News.AreKept, News.KeepsChildren}
 use Rattle.desk_model.specs.Change.{applied, applied_one, put}
-use Rattle.desk_model.specs.{Kept.EachOf, Tables.Tables, declared.rows.Change.Change, declared.rows.Listed.Listed, declared.rows.OrderRow.OrderRow}
+use Rattle.desk_model.specs.{Tables.Tables, declared.rows.Change.Change, declared.rows.Listed.Listed, declared.rows.OrderRow.OrderRow}
 use Rattle.sql_write.specs.{Fitting.AreFit, Fitting.InOrder, Fitting.Saves, Makes.MakesAll}
-use Rattle.sql_write.proofs.{ListedAfter.apart_parts, ListedAfter.found_in, ChallengeNumbers.numbers_differ, ChallengeNumbers.rows_differ, Numbered.find_here}
-use Rattle.sql_write.proofs.{Numbered.find_later}
+use Rattle.sql_write.proofs.{ChallengeNumbers.numbers_differ, ChallengeNumbers.rows_differ}
+use Rattle.sql_write.proofs.ListedAfter.{apart_parts, found_in, listed_parts}
 use Rattle.sql_tables.specs.{Layouts.IsRising, Layouts.challenge_layout, Layouts.order_layout, Effects.is_same_place, Holds.AreApart, Holds.AreRising}
-use Rattle.sql_tables.proofs.Keyed.{put_ascends, ranked}
+use Rattle.sql_tables.proofs.Keyed.{put_ascends}
 
 -- ---- rows that rise
 
@@ -31,40 +30,17 @@ challenges_back T c kept apart =
 -- ---- places that are apart
 
 -- of three lists, without the second
-each_without : (P : Owned Listed → Type 0) (xs ys zs : List (Owned Listed)) → EachOf P (xs ++ (ys ++ zs)) → EachOf P (xs ++ zs)
-each_without P [] ys zs h = (each_parts P ys zs h).1
-each_without P (x ∷ xs) ys zs h = (h.0, each_without P xs ys zs h.1)
-
--- of three lists, without the second
 apart_without : (xs ys zs : List (Owned Listed)) → AreApart (xs ++ (ys ++ zs)) → AreApart (xs ++ zs)
 apart_without [] ys zs h = (apart_parts ys zs h).1
-apart_without (x ∷ xs) ys zs h = (each_without (λ k. is_same_place x k ≡ false) xs ys zs h.0, apart_without xs ys zs h.1)
-
--- an order that is not there yet goes between two parts
-parts : (x : OrderRow) (os : List OrderRow) → find (λ o. o.number == x.number) os ≡ None
-    → (pre : List (Owned Listed)) × (post : List (Owned Listed)) × (listed_rows os ≡ pre ++ post)
-    × (listed_rows (put order_layout.key x os) ≡ pre ++ (owned_by x.number x.listed ++ post))
-parts x [] none = ([], [], refl, refl)
-parts x (p ∷ ps) none = elim (ranked p.number x.number) [
-  | inl less ↦
-      let own = owned_by p.number p.listed in
-      let more = parts x ps (sym (find_later order_layout.key x.number p ps (λ f. omega (arith, f, less.low))) ∙ none) in (
-        own ++ more.0,
-        more.1,
-        ap (λ ls. own ++ ls) more.2 ∙ sym (append_assoc own more.0 more.1),
-        ap listed_rows (put_past order_layout.key x p ps less.low)
-            ∙ ap (λ ls. own ++ ls) more.3
-            ∙ sym (append_assoc own more.0 (owned_by x.number x.listed ++ more.1)),
-      )
-  | inr (inl tied) ↦ let some : Some p ≡ None = sym (find_here order_layout.key x.number p ps tied.same) ∙ none in absurd (cc some)
-  | inr (inr more) ↦ ([], listed_rows (p ∷ ps), refl, ap listed_rows (put_before order_layout.key x p ps more.high))
-]
+apart_without (x ∷ xs) ys zs h =
+    let it = each_parts (λ k. is_same_place x k ≡ false) xs (ys ++ zs) h.0 in
+    (each-append _ xs zs it.0 (each_parts _ ys zs it.1).1, apart_without xs ys zs h.1)
 
 -- places are apart before an order is put, where they are after
 apart_back : (x : OrderRow) (os : List OrderRow) → IsRising order_layout.key os → IfSome (find (λ o. o.number == x.number) os) (λ o. o.listed ≡ x.listed)
     → AreApart (listed_rows (put order_layout.key x os))
     → AreApart (listed_rows os)
-apart_back x os up kept apart = search (rules, parts, apart_without, found_in)
+apart_back x os up kept apart = search (rules, listed_parts, apart_without, found_in)
 
 -- and before any change, where they are after
 listed_back : (T : Tables) (c : Change) → IsRising order_layout.key T.orders → KeepsChildren T c → AreApart (listed_rows (applied_one c T).orders)

@@ -1,78 +1,103 @@
 -- What a transaction leaves behind.
-use Rattle.std.proofs.Common.{◌≡◌, Result, Ok, Err, IfErr, IsOk, IsTrue, OnErr, OnOk, refl, sym, subst, ◌∙◌, arith}
+use Rattle.std.proofs.Common.{◌≡◌, ◌⊎◌, inl, inr, List, Result, Ok, Err, IfErr, IsOk, IsTrue, OnErr, OnOk, refl, sym, ap, subst, ◌∙◌, arith}
 use Rattle.sqlite.specs.{Effect.Database, Store.Ghosts, Held.Held, Held.state, State.HasCleanDisk, State.IsRolledBack, State.Survives}
 use Rattle.sqlite.proofs.{Callers.survives_begin, StateLemmas.survives_then}
-use Rattle.sql_schema.specs.Advances.{Advances, KeepsLast}
+use Rattle.sql_schema.specs.Advances.{Advances}
+use Rattle.sql_schema.proofs.StaysLemmas.{asks_nothing}
 use Rattle.sql_write.specs.Committing.{GoesBack, HasCommitted, IsBeforeCommit, IsLeft}
-use Rattle.sql_write.specs.{Refusals.begun, declared.fault.SaveFault.SaveFault}
+use Rattle.sql_write.specs.Refusals.{FailedCommit, HasWritten, IsCause, Ran, Stops, begun}
+use Rattle.sql_write.specs.{Numbers.IsNotTooLarge, Statements.Sql, declared.fault.SaveFault.SaveFault}
+use Rattle.sql_write.specs.declared.fault.SaveFault.TheVariants as save
 
--- a connection before a transaction, when it was begun, at its last call and behind its end
-module _ {S : Type 0} (g : Ghosts S) (old first last after : Held S) (begins : first ≡ begun old) (done : Result (Unit {0}) SaveFault) where
-  abbrev Done : (Database → Database → Type 0) → Type 0
-  Done Does = OnOk done (Advances (state g first) (state g last) Does)
+-- a connection before a transaction, at its last call and behind its end; what its statements do, in other words too
+module _ {S : Type 0} (g : Ghosts S) (old last after : Held S) (all : List Sql) (Does Says : Database → Database → Type 0) (Fits : Type 0) where
+  -- the transaction was ended behind calls that were answered so
+  pub record Ends (answered result : Result (Unit {0}) SaveFault) : Type 0 where
+    pub done : OnOk result (IsOk answered)
+    pub ok : HasCleanDisk (state g after) → OnOk result (HasCommitted (state g last) (state g after) (λ now db. db ≡ now))
+    pub err : HasCleanDisk (state g after)
+        → OnErr result (OnOk answered (IsTrue (state g last).in_transaction) → IsRolledBack (state g last) (state g after))
+    pub before : IfErr result (λ why. IsBeforeCommit why → Survives (state g last) (state g after) (λ _. ⊥))
+    pub left : Survives (state g last) (state g after) (λ db. IsOk answered × (db ≡ (state g last).now.trees))
+    pub cause : IfErr result (λ why. (answered ≡ Err why) ⊎ (IsOk answered × FailedCommit g last after why))
+    pub fits : Fits → IfErr result IsNotTooLarge
 
-  abbrev Ends : Type 0
-  Ends = Survives (state g last) (state g after) (λ db. IsOk done × (db ≡ (state g last).now.trees))
+  -- what was done is committed, what failed is undone; before the commit a stop leaves nothing new, and then what was done, or what was there
+  pub record Leaves (result : Result (Unit {0}) SaveFault) : Type 0 where
+    pub ok : HasCleanDisk (state g after) → OnOk result (HasCommitted (state g old) (state g after) Says)
+    pub err : HasCleanDisk (state g after) → OnErr result (GoesBack (state g old) (state g after))
+    pub before : IfErr result (λ why. IsBeforeCommit why → Survives (state g old) (state g after) (λ _. ⊥))
+    pub left : Survives (state g old) (state g after) (IsLeft (Says (state g old).now))
+    pub cause : IfErr result (IsCause g Fits all old after)
 
-  -- what was done is committed, in other words
-  pub committed_by : (result : Result (Unit {0}) SaveFault) (Does Says : Database → Database → Type 0)
-      → (Does (state g old).now (state g last).now → Says (state g old).now (state g last).now)
-      → Done Does → Ends → OnOk result (IsOk done)
-      → (HasCleanDisk (state g after) → OnOk result (HasCommitted (state g last) (state g after) (λ now db. db ≡ now)))
-      → HasCleanDisk (state g after) → OnOk result (HasCommitted (state g old) (state g after) Says)
-  committed_by (Err why) Does Says means advances ends is ok clean = tt
-  committed_by (Ok u) Does Says means advances ends is ok clean = go done advances is
+  -- the calls did this, where they were answered
+  did : (done : Result (Unit {0}) SaveFault) → OnOk done (Advances (state g (begun old)) (state g last) Does) → IsOk done → HasCleanDisk (state g last)
+      → Does (state g old).now (state g last).now
+  did (Err why) advances is clean = absurd (cc is)
+  did (Ok v) advances is clean = (advances clean refl).does
+
+  -- and the transaction was still open
+  inside : (done : Result (Unit {0}) SaveFault) → OnOk done (Advances (state g (begun old)) (state g last) Does) → HasCleanDisk (state g last)
+      → OnOk done (IsTrue (state g last).in_transaction)
+  inside (Err why) advances clean = tt
+  inside (Ok v) advances clean = (advances clean refl).inside
+
+  -- what stopped the statements is the cause
+  stopped : (why : SaveFault) → Stops g all (begun old) last why → (IsBeforeCommit why → Survives (state g last) (state g after) (λ _. ⊥))
+      → (Fits → IsNotTooLarge why) → IsCause g Fits all old after why
+  stopped (save.Row why) stops early fits = (last, stops, early tt, λ large all_fit. fits all_fit (ap save.Row large))
+  stopped (save.Statement error) stops early fits = (last, stops, early tt)
+  stopped (save.Commit error) stops early fits = absurd stops
+
+  -- or the commit behind them is
+  caused : (done : Result (Unit {0}) SaveFault) (why : SaveFault) → Ran g all (begun old) last done
+      → (done ≡ Err why) ⊎ (IsOk done × FailedCommit g last after why) → (IsBeforeCommit why → Survives (state g last) (state g after) (λ _. ⊥))
+      → (Fits → IsNotTooLarge why) → IsCause g Fits all old after why
+  caused (Ok v) why ran (inl is) early fits = absurd (cc is)
+  caused (Ok v) why ran (inr it) early fits =
+      subst (IsCause g Fits all old after) (sym it.1.is) (last, after, ran, it.1.fails, (asks_nothing (state g after)).survives)
+  caused (Err fault) why ran (inl is) early fits = let same : fault ≡ why = cc in stopped why (subst (Stops g all (begun old) last) same ran) early fits
+  caused (Err fault) why ran (inr it) early fits = absurd (let never = it.0 in cc)
+
+  leaves_begun : (done result : Result (Unit {0}) SaveFault) → (Does (state g old).now (state g last).now → Says (state g old).now (state g last).now)
+      → HasWritten g all Does (begun old) last done → Ends done result → Leaves result
+  leaves_begun done result means it ends = by result ends
     where
-      go : (d : Result (Unit {0}) SaveFault) → OnOk d (Advances (state g first) (state g last) Does) → IsOk d
-          → HasCommitted (state g old) (state g after) Says
-      go (Err why) advances is = absurd (cc is)
-      go (Ok v) advances is =
-          let at = ok clean in
-          let did : Advances (state g (begun old)) (state g last) Does = rw begins at advances in record {
-            is_open = at.is_open;
-            does = subst (Says (state g old).now) (sym at.does) (means (did (omega (arith, clean, ends.clean)) refl).does);
-            settled = at.settled;
-            left = at.left;
-          }
+      found : (e : Ends done result) → Survives (state g old) (state g after) (IsLeft (Says (state g old).now))
+      found e =
+          survives_then (state g old) (state g last) (state g after) _ _ (IsLeft (Says (state g old).now)) (λ _ db none. absurd none)
+          (λ clean db is. ((state g last).now, is.1, means (did done it.does is.0 (omega (arith, e.left.clean, clean)))))
+          (survives_begin g old (state g last) _ it.survives) e.left
 
-  -- what failed is undone
-  pub undone_by : (result : Result (Unit {0}) SaveFault) (Does : Database → Database → Type 0) → Done Does → KeepsLast (state g first) (state g last) → Ends
-      → (HasCleanDisk (state g after) → OnErr result (OnOk done (IsTrue (state g last).in_transaction) → IsRolledBack (state g last) (state g after)))
-      → HasCleanDisk (state g after) → OnErr result (GoesBack (state g old) (state g after))
-  undone_by (Ok u) Does advances kept ends err clean = tt
-  undone_by (Err why) Does advances kept ends err clean =
-      let clean_last : HasCleanDisk (state g last) = omega (arith, clean, ends.clean) in
-      let keeps : KeepsLast (state g (begun old)) (state g last) = rw begins at kept in
-      let back = err clean (inside done advances clean_last) in
-      record {
-        now = λ h. (back.undone h).0 ∙ keeps clean_last refl (back.was_open h);
-        committed = λ h. (back.undone h).1
-            ∙ keeps clean_last refl (back.was_open h);
+      by : (r : Result (Unit {0}) SaveFault) → Ends done r → Leaves r
+      by (Ok u) e = record {
+        ok = λ clean. let at = e.ok clean in record {
+          is_open = at.is_open;
+          does = subst (Says (state g old).now) (sym at.does) (means (did done it.does e.done (omega (arith, clean, e.left.clean))));
+          settled = at.settled;
+          left = at.left;
+        };
+        err = λ clean. tt;
+        before = tt;
+        left = found ends;
+        cause = tt;
       }
-    where
-      inside : (d : Result (Unit {0}) SaveFault) → OnOk d (Advances (state g first) (state g last) Does) → HasCleanDisk (state g last)
-          → OnOk d (IsTrue (state g last).in_transaction)
-      inside (Err why) advances clean = tt
-      inside (Ok v) advances clean = let did : Advances (state g (begun old)) (state g last) Does = rw begins at advances in (did clean refl).inside
+      by (Err why) e = record {
+        ok = λ clean. tt;
+        err = λ clean.
+            let clean_last : HasCleanDisk (state g last) = omega (arith, clean, e.left.clean) in
+            let back = e.err clean (inside done it.does clean_last) in record {
+              now = λ h. (back.undone h).0 ∙ it.kept clean_last refl (back.was_open h);
+              committed = λ h. (back.undone h).1 ∙ it.kept clean_last refl (back.was_open h);
+            };
+        before = λ is. survives_then (state g old) (state g last) (state g after) _ _ (λ _. ⊥) (λ _ db none. none) (λ _ db none. none)
+            (survives_begin g old (state g last) _ it.survives) (e.before is);
+        left = found ends;
+        cause = caused done why it.told e.cause e.before e.fits;
+      }
 
-  -- before the commit a stop leaves nothing new
-  pub spared_by : (result : Result (Unit {0}) SaveFault) → Survives (state g first) (state g last) (λ _. ⊥)
-      → IfErr result (λ why. IsBeforeCommit why → Survives (state g last) (state g after) (λ _. ⊥))
-      → IfErr result (λ why. IsBeforeCommit why → Survives (state g old) (state g after) (λ _. ⊥))
-  spared_by (Ok u) inside before = tt
-  spared_by (Err why) inside before =
-      λ is. survives_then (state g old) (state g last) (state g after) _ _ (λ _. ⊥) (λ _ db none. none) (λ _ db none. none)
-      (survives_begin g old (state g last) _ (rw begins at inside)) (before is)
-
-  -- a stop leaves what was done, or else what was there
-  pub left_by : (Does Says : Database → Database → Type 0) → (Does (state g old).now (state g last).now → Says (state g old).now (state g last).now)
-      → Survives (state g first) (state g last) (λ _. ⊥) → Done Does → Ends → Survives (state g old) (state g after) (IsLeft (Says (state g old).now))
-  left_by Does Says means inside advances ends =
-      survives_then (state g old) (state g last) (state g after) _ _ (IsLeft (Says (state g old).now)) (λ _ db none. absurd none)
-      (λ clean db is. ((state g last).now, is.1, means (go done advances is.0 (omega (arith, ends.clean, clean)))))
-      (survives_begin g old (state g last) _ (rw begins at inside)) ends
-    where
-      go : (d : Result (Unit {0}) SaveFault) → OnOk d (Advances (state g first) (state g last) Does) → IsOk d → HasCleanDisk (state g last)
-          → Does (state g old).now (state g last).now
-      go (Err why) advances is clean = absurd (cc is)
-      go (Ok v) advances is clean = let did : Advances (state g (begun old)) (state g last) Does = rw begins at advances in (did clean refl).does
+  -- so it leaves this, from its beginning on
+  pub leaves : (first : Held S) → first ≡ begun old → (done result : Result (Unit {0}) SaveFault)
+      → (Does (state g old).now (state g last).now → Says (state g old).now (state g last).now)
+      → HasWritten g all Does first last done → Ends done result → Leaves result
+  leaves first begins done result means it ends = leaves_begun done result means (subst (λ h. HasWritten g all Does h last done) begins it) ends

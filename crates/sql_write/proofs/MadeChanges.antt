@@ -85,15 +85,14 @@ held_with : (db : Database) (rows : List AuthorizationRow) → HasRows authoriza
 held_with db rows has x None there = (rows, has, tt, refl)
 held_with db rows has x (Some a) (b, found, some) =
     let key = authorization_layout.key in
-    let number : b.number ≡ x.number = (found_has key x.number rows b found).1 in
-    let same : a.number ≡ x.number = ap (λ (r : AuthorizationRow). r.number) some.columns ∙ number in
-    let at_own : find (λ (r : AuthorizationRow). r.number == a.number) rows ≡ Some b =
-    ap (λ n. find (λ (r : AuthorizationRow). r.number == n) rows) same ∙ found in (
+    let stood = found_has key x.number rows b found in
+    let own : a.number ≡ b.number = ap (λ (r : AuthorizationRow). r.number) some.columns in
+    let same : a.number ≡ x.number = own ∙ stood.1 in (
       put key a rows,
       record {
         schema = has.schema;
         rows_are = has.rows_are
-            ∙ sym (put_alike key authorization_layout.image 0 a b rows has.rising at_own (ap authorization_layout.image some.columns));
+            ∙ sym (put_alike key authorization_layout.image a b 0 rows has.rising stood.0 (sym own) (sym (ap authorization_layout.image some.columns)));
         rising = put_ascends key 0 a rows (omega arith) has.rising;
       },
       (has_own key a rows, same),

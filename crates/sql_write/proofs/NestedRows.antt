@@ -4,7 +4,7 @@ use Rattle.std.proofs.Common.{◌≡◌, ◌≢◌, inl, inr, ℕ, List, [], ◌
 use Rattle.model_laws.proofs.{Basics.each, Basics.each_parts, Distinctness.distinct_parts, RowLists.put_before, RowLists.put_instead, RowLists.put_past}
 use Rattle.model_laws.specs.{Distinct.Distinct, Placing.puts}
 use Rattle.desk_model.specs.{Change.put, Kept.EachOf}
-use Rattle.sql_write.proofs.Numbered.{AreWithin, find_here, find_later, put_each_within}
+use Rattle.sql_write.proofs.Numbered.{AreWithin, find_here, find_later, part_of_put, put_each_within}
 use Rattle.sql_tables.specs.Sorted.{sorted_by}
 use Rattle.sql_tables.proofs.{Keyed.ranked, Sorting.put_each, Sorting.put_each_both, Sorting.puts_each, Sorting.sorted_append}
 
@@ -15,33 +15,11 @@ module _ {P C : Type 0} (parent : P → ℕ) (children : P → List C) (key : C 
 
   -- what holds of all children holds of those of the row that was put
   among : (Q : C → Type 0) (x : P) (ps : List P) → EachOf Q (of_all (put parent x ps)) → EachOf Q (children x)
-  among Q x [] all = (each_parts Q (children x) [] all).0
-  among Q x (p ∷ ps) all = elim (ranked (parent p) (parent x)) [
-    | inl less ↦
-        let a : EachOf Q (of_all (p ∷ put parent x ps)) = subst (λ l. EachOf Q (of_all l)) (put_past parent x p ps less.low) all in
-        among Q x ps (each_parts Q (children p) (of_all (put parent x ps)) a).1
-    | inr (inl tied) ↦
-        let a : EachOf Q (of_all (x ∷ ps)) = subst (λ l. EachOf Q (of_all l)) (put_instead parent x p ps tied.same) all in
-        (each_parts Q (children x) (of_all ps) a).0
-    | inr (inr more) ↦
-        let a : EachOf Q (of_all (x ∷ p ∷ ps)) = subst (λ l. EachOf Q (of_all l)) (put_before parent x p ps more.high) all in
-        (each_parts Q (children x) (of_all (p ∷ ps)) a).0
-  ]
+  among Q x ps = part_of_put parent children (EachOf Q) (each_parts Q) x ps
 
   -- children that differ: so do those of the row that was put
   pub own_apart : (x : P) (ps : List P) → Distinct key (of_all (put parent x ps)) → Distinct key (children x)
-  own_apart x [] apart = (distinct_parts key (children x) [] apart).0
-  own_apart x (p ∷ ps) apart = elim (ranked (parent p) (parent x)) [
-    | inl less ↦
-        let a : Distinct key (of_all (p ∷ put parent x ps)) = subst (λ l. Distinct key (of_all l)) (put_past parent x p ps less.low) apart in
-        own_apart x ps (distinct_parts key (children p) (of_all (put parent x ps)) a).2
-    | inr (inl tied) ↦
-        let a : Distinct key (of_all (x ∷ ps)) = subst (λ l. Distinct key (of_all l)) (put_instead parent x p ps tied.same) apart in
-        (distinct_parts key (children x) (of_all ps) a).0
-    | inr (inr more) ↦
-        let a : Distinct key (of_all (x ∷ p ∷ ps)) = subst (λ l. Distinct key (of_all l)) (put_before parent x p ps more.high) apart in
-        (distinct_parts key (children x) (of_all (p ∷ ps)) a).0
-  ]
+  own_apart x ps = part_of_put parent children (Distinct key) (λ cs ds apart. let it = distinct_parts key cs ds apart in (it.0, it.2)) x ps
 
   -- they go to their places among the sorted children of all rows
   own_put : (x : P) (ps : List P)

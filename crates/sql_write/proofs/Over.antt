@@ -8,24 +8,19 @@ use Rattle.model_laws.proofs.RowLists.{put_before, put_instead, put_past, puts_a
 use Rattle.model_laws.proofs.{Basics.each, Basics.each_parts, Distinctness.distinct_parts}
 use Rattle.model_laws.specs.{Distinct.Distinct, Placing.puts}
 use Rattle.desk_model.specs.{Change.put, Kept.EachOf}
-use Rattle.sql_write.proofs.Written.{nothing_written, written_as, written_with}
+use Rattle.sql_write.proofs.{InPlace.put_alike, Numbered.put_parts, PlacedRows.has_right, Written.nothing_written, Written.written_as, Written.written_with}
 use Rattle.sql_write.specs.{Makes.PutsAllOver, Makes.PutsOver, Makes.Sets, Makes.AreFoundUnder, Makes.Writes, Write.write, Refusals.HasWritten, Statements.Sql}
 use Rattle.sql_write.specs.{Statements.of_some, declared.fault.SaveFault.SaveFault, declared.stored.Write.Write, declared.stored.Difference.Difference}
 use Rattle.sql_write.specs.{declared.stored.Difference.TheVariants.Same, declared.stored.Difference.TheVariants.Moved}
 use Rattle.sql_tables.specs.{Sorted.sorted_by, Layouts.HasRows, Layouts.Layout}
-use Rattle.sql_tables.proofs.{Keyed.put_ascends, Keyed.ranked, Unmoved.put_as_it_is}
+use Rattle.sql_tables.proofs.Keyed.{put_ascends, ranked}
 
 -- ---- rows that stay
 
 module _ {X : Type 0} (key : X → ℕ) where
   -- the row that was put is there
   pub has_own : (x : X) (rows : List X) → Has (put key x rows) x
-  has_own x [] = inl refl
-  has_own x (y ∷ ys) = elim (ranked (key y) (key x)) [
-    | inl less ↦ subst (λ rs. Has rs x) (sym (put_past key x y ys less.low)) (inr (has_own x ys))
-    | inr (inl tied) ↦ subst (λ rs. Has rs x) (sym (put_instead key x y ys tied.same)) (inl refl)
-    | inr (inr more) ↦ subst (λ rs. Has rs x) (sym (put_before key x y ys more.high)) (inl refl)
-  ]
+  has_own x rows = let it = put_parts key x rows in subst (λ rs. Has rs x) (sym it.put_is) (has_right it.pre (x ∷ it.post) x (inl refl))
 
   -- and one with another number still is
   pub has_other : (x z : X) (rows : List X) → key z ≢ key x → Has rows z → Has (put key x rows) z
@@ -72,7 +67,7 @@ pub record Differs {X : Type 0} (L : Layout X) (kept : X → Row) (diff : X → 
 over_stored : {X : Type 0} (L : Layout X) (kept : X → Row) (diff : X → Difference) (row : X) (new : Bool) (stored : Option X)
     → Differs L kept diff row stored
     → (a b : Database) → Sets L kept (write (option_map diff stored) new) row a b → PutsOver L stored row a b
-over_stored L kept diff row new stored h a b k = search (rules, put_as_it_is, put_ascends)
+over_stored L kept diff row new stored h a b k = search (rules, (put_alike L.key L.image), put_ascends)
 
 -- ---- several rows
 
@@ -116,9 +111,9 @@ module _ {S : Type 0} (g : Ghosts S) {X : Type 0} {L : Layout X} {kept : X → R
     (differs : Differs L kept diff row stored) (new : Bool) (of : Write → List Sql) {told : Option Write} {found wanted : Option Difference}
     (like : option_map diff stored ≡ wanted) (by : told ≡ write found new) (are : found ≡ wanted) where
   -- it is what is done of the row
-  set_as : {R : Type 0} (a b : Held S) (r : Result R SaveFault) (m : Option Write) → told ≡ m
+  set_as : {R : Type 0} {a b : Held S} {r : Result R SaveFault} {m : Option Write} → told ≡ m
       → HasWritten g (of_some of m) (Sets L kept m row) a b r → HasWritten g (of_some of (write wanted new)) (PutsOver L stored row) a b r
-  set_as a b r m is it =
+  set_as {a = a} {b = b} {r = r} {m = m} is it =
       let same : m ≡ write (option_map diff stored) new = sym is ∙ by ∙ ap (λ d. write d new) (are ∙ sym like) in
       written_with g _ _ (PutsOver L stored row) a b r (ap (of_some of) (same ∙ ap (λ d. write d new) like))
       (written_as g (of_some of m) (Sets L kept m row) (PutsOver L stored row) a b r
@@ -126,13 +121,13 @@ module _ {S : Type 0} (g : Ghosts S) {X : Type 0} {L : Layout X} {kept : X → R
       (subst (λ o. Sets L kept o row (state g a).now (state g b).now) same did)) it)
 
   -- a row that is written in this write
-  pub set_some : {R : Type 0} (a b : Held S) (r : Result R SaveFault) (m : Write) → told ≡ Some m → HasWritten g (of m) (Writes L kept m row) a b r
+  pub set_some : {R : Type 0} {a b : Held S} {r : Result R SaveFault} {m : Write} → told ≡ Some m → HasWritten g (of m) (Writes L kept m row) a b r
       → HasWritten g (of_some of (write wanted new)) (PutsOver L stored row) a b r
-  set_some a b r m = set_as a b r (Some m)
+  set_some {m = m} is it = set_as {m = Some m} is it
 
   -- and one that is not
-  pub set_none : {R : Type 0} (a : Held S) (u : R) → told ≡ None → HasWritten g (of_some of (write wanted new)) (PutsOver L stored row) a a (Ok u)
-  set_none a u is = set_as a a (Ok u) None is (nothing_written g (Sets L kept None row) a u refl)
+  pub set_none : {R : Type 0} {a : Held S} {u : R} → told ≡ None → HasWritten g (of_some of (write wanted new)) (PutsOver L stored row) a a (Ok u)
+  set_none {a = a} {u = u} is = set_as {m = None} is (nothing_written g (Sets L kept None row) a u refl)
 
 -- ---- what is known, under an owner
 

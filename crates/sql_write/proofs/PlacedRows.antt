@@ -1,5 +1,5 @@
 -- Rows under hidden numbers, told apart by order and place.
-use Rattle.std.specs.{Prelude.◌==◌, List.AllByRecursion, List.Sorted.IsPermutation}
+use Rattle.std.specs.{Prelude.◌==◌, List.AllByRecursion, List.flat_map, List.Sorted.IsPermutation}
 use Rattle.std.proofs.Common.{◌≡◌, ◌≢◌, ◌⊎◌, inl, inr, ℕ, ◌+◌, ◌<◌, ◌≤◌, ◌++◌, List, [], ◌∷◌, map, fold, Bool, true, false, ◌&&◌, refl, sym, ap, subst, ◌∙◌}
 use Rattle.std.proofs.Common.{arith, append-nil}
 use Rattle.std.proofs.lemmas.{Bool.ne_eqb, List.append_assoc, List.map-append, List.Elements.All-from_recursion, List.Elements.recursion_from_All}
@@ -11,7 +11,7 @@ use Rattle.model_laws.specs.Ordered.{Ascends, Below}
 use Rattle.desk_model.specs.{Change.put, Kept.EachOf, declared.rows.Listed.Listed}
 use Rattle.sql_write.specs.Makes.{ArePlaced, appended}
 use Rattle.sql_tables.specs.{Effects.is_same_place, Holds.AreApart, Layouts.IsRising, Hidden.IsPlaced, Hidden.next, Hidden.number, Hidden.row_of}
-use Rattle.sql_tables.proofs.{Keyed.put_ascends, HiddenUpsert.has_map}
+use Rattle.sql_tables.proofs.{Keyed.put_ascends, Upsert.has_map, Upsert.image_of}
 
 -- ---- members of lists
 
@@ -53,17 +53,17 @@ pub has_right : {X : Type 0} (xs ys : List X) (x : X) → Has ys x → Has (xs +
 has_right [] ys x h = h
 has_right (z ∷ zs) ys x h = inr (has_right zs ys x h)
 
+-- in what is made of an item
+pub has_flat : {X Y : Type 0} (f : X → List Y) (xs : List X) (x : X) (y : Y) → Has xs x → Has (f x) y → Has (flat_map f xs) y
+has_flat f [] x y h own = absurd h
+has_flat f (z ∷ zs) x y (inl here) own = has_left (f z) (flat_map f zs) y (subst (λ w. Has (f w) y) here own)
+has_flat f (z ∷ zs) x y (inr there) own = has_right (f z) (flat_map f zs) y (has_flat f zs x y there own)
+
 -- in one of the two
 pub has_parts : {X : Type 0} (xs ys : List X) (x : X) → Has (xs ++ ys) x → Has xs x ⊎ Has ys x
 has_parts [] ys x h = inr h
 has_parts (z ∷ zs) ys x (inl here) = inl (inl here)
 has_parts (z ∷ zs) ys x (inr there) = grind (arith, (has_parts zs ys x there))
-
--- what a mapped list has is the image of an item
-pub image_of : {X Y : Type 0} (f : X → Y) (xs : List X) (y : Y) → Has (map f xs) y → (x : X) × Has xs x × (y ≡ f x)
-image_of f [] y h = absurd h
-image_of f (x ∷ xs) y (inl here) = (x, inl refl, here)
-image_of f (x ∷ xs) y (inr there) = let it = image_of f xs y there in (it.0, inr it.1, it.2)
 
 -- ---- places
 

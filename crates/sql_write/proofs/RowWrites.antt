@@ -7,16 +7,15 @@ use Rattle.sql_write.specs.Statements.{nonce_writing, order_writing, sql_by, wri
 use Rattle.sql_write.specs.{Makes.AddsOrPuts, Makes.AppendsOrPlaces, Makes.RenewsOrPuts, Makes.Writes, Refusals.HasWritten, Refusals.IsRun}
 use Rattle.sql_write.specs.{declared.fault.SaveFault.SaveFault, declared.fault.WriteFault.WriteFault, declared.stored.Write.Write}
 use Rattle.sql_write.specs.{declared.stored.Write.TheVariants.Upsert, declared.stored.Write.TheVariants.Insert, declared.stored.Write.TheVariants.Update}
-use Rattle.sql_write.specs.declared.fault.SaveFault.TheVariants as save
 use Rattle.sql_write.proofs.Written.{none_written, run_written}
 use Rattle.sql_tables.specs.Images.{account_kept, authorization_kept, challenge_kept, formatted_columns, meta_kept, order_kept}
 use Rattle.sql_tables.specs.Layouts.{Layout, account_layout, authorization_layout, challenge_layout, formatted_layout, key_layout, nonce_layout, order_layout}
-use Rattle.sql_tables.proofs.Upserts.{account_insert, account_update, account_upsert, authorization_insert, authorization_update, authorization_upsert}
-use Rattle.sql_tables.proofs.Upserts.{challenge_insert, challenge_update, challenge_upsert, key_insert, key_upsert, meta_update, meta_upsert, nonce_insert}
-use Rattle.sql_tables.proofs.Upserts.{nonce_upsert, order_insert, order_update, order_upsert}
-use Rattle.sql_tables.proofs.{Inserts.Carries, InsertStatement.IsInsert, InsertStatement.advances_inserted, ListedUpsert.advances_appended}
-use Rattle.sql_tables.proofs.{ListedUpsert.advances_listed, UpdateStatement.IsUpdate, UpdateStatement.advances_renewed, UpsertStatement.IsUpsert}
-use Rattle.sql_tables.proofs.{UpsertStatement.advances_by}
+use Rattle.sql_tables.proofs.Upserts.{account_insert, account_update, account_upsert, nonce_insert, nonce_upsert, order_insert, order_update, order_upsert}
+use Rattle.sql_tables.proofs.Upserts.{authorization_insert, authorization_update, authorization_upsert, challenge_insert, challenge_update, challenge_upsert}
+use Rattle.sql_tables.proofs.Upserts.{key_insert, key_upsert, meta_update, meta_upsert}
+use Rattle.sql_tables.proofs.{Inserts.Carries, InsertStatement.IsInsert, UpdateStatement.IsUpdate, UpsertStatement.IsUpsert, UpsertStatement.advances_by}
+use Rattle.sql_tables.proofs.{InsertStatement.advances_inserted, ListedUpsert.advances_appended, ListedUpsert.advances_listed, UpdateStatement.advances_renewed}
+use Rattle.sql_write.specs.declared.fault.SaveFault.TheVariants as save
 
 -- the texts by which rows of a table are put, inserted and renewed do this
 pub record AreTexts {X : Type 0} (rows : RowWriting X) (Does : Write → X → Database → Database → Type 0) : Type 1 where
@@ -31,11 +30,11 @@ module _ {S : Type 0} (g : Ghosts S) {X : Type 0} {rows : RowWriting X} {Does : 
   row_unwritten m a why = none_written g (writes rows m x) (Does m x) a why
 
   -- the statement for this write was run with these values
-  pub row_written : (a b : Held S) (q : Result (Unit {0}) SaveFault) (m : Write) (all updates : Row) → all ≡ rows.all x → updates ≡ rows.updates x
+  pub row_written : (m : Write) {a b : Held S} {q : Result (Unit {0}) SaveFault} {all updates : Row} → all ≡ rows.all x → updates ≡ rows.updates x
       → IsRun g (sql_by rows.texts.0.now rows.texts.1.now rows.texts.2.now m all updates) a b q → HasWritten g (writes rows m x) (Does m x) a b q
-  row_written a b q Upsert all updates are renew it = run_written g rows.texts.1.now all (rows.all x) (Does Upsert x) a b q are it (texts.puts x _ _ all are)
-  row_written a b q Insert all updates are renew it = run_written g rows.texts.0.now all (rows.all x) (Does Insert x) a b q are it (texts.adds x _ _ all are)
-  row_written a b q Update all updates are renew it =
+  row_written Upsert {a} {b} {q} {all} are renew it = run_written g rows.texts.1.now all (rows.all x) (Does Upsert x) a b q are it (texts.puts x _ _ all are)
+  row_written Insert {a} {b} {q} {all} are renew it = run_written g rows.texts.0.now all (rows.all x) (Does Insert x) a b q are it (texts.adds x _ _ all are)
+  row_written Update {a} {b} {q} {updates = updates} are renew it =
       run_written g rows.texts.2.now updates (rows.updates x) (Does Update x) a b q renew it (texts.renews x _ _ updates renew)
 
 -- ---- each table

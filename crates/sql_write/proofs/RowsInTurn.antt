@@ -12,7 +12,7 @@ use Rattle.sql_write.specs.Makes.{AddsOrPuts, AppendsAll, AppendsOrPlaces, ArePl
 use Rattle.sql_write.specs.Makes.{Writes, WritesListed, appended}
 use Rattle.sql_write.specs.{Fitting.AreFit, Fitting.IsFit, Statements.save_statements, Statements.statements_from, Statements.statements_of}
 use Rattle.sql_write.specs.declared.{stored.Write.Write, stored.Write.TheVariants.Upsert, stored.Write.TheVariants.Insert, stored.Write.TheVariants.Update}
-use Rattle.model_laws.proofs.{RowLists.puts_append, Recorded.applied-append}
+use Rattle.model_laws.proofs.{Basics.each_of_map, RowLists.puts_append, Recorded.applied-append}
 use Rattle.sql_write.proofs.{Over.over_both, Over.over_none, Over.over_one, Written.Turns, StoredRows.part_after}
 use Rattle.sql_tables.specs.Effects.{Appends, Places, Puts, is_same_place}
 use Rattle.sql_tables.specs.{Hidden.IsPlaced, Hidden.next, Hidden.number, Layouts.Layout, Layouts.key_layout}
@@ -38,12 +38,16 @@ writes_renewed L kept row write a b h k = search rules
 one_more_put : {X : Type 0} (L : Layout X) (ys : List X) (y : X) (a b c : Database) → PutsAll L ys a b → Puts L y b c → PutsAll L (ys ++ y ∷ []) a c
 one_more_put L ys y a b c before last sound rows has = search (rules, puts_append)
 
--- what holds of all rows of an owner holds of the one at a place
+-- what holds of all rows holds of the one at a place
+pub each_at : {X : Type 0} (P : X → Type 0) (xs : List X) (i : ℕ) (d : X) → i < length xs → EachOf P xs → P (get_or xs i d)
+each_at P [] i d low all = absurd (omega (arith, low))
+each_at P (x ∷ xs) zero d low all = all.0
+each_at P (x ∷ xs) (suc i) d low all = each_at P xs i d (omega (arith, low)) all.1
+
+-- of rows of an owner, too
 pub each_owned : {X : Type 0} (P : Owned X → Type 0) (n : ℕ) (xs : List X) (i : ℕ) (d : X) → i < length xs → EachOf P (owned_by n xs)
     → P (record { owner = n; row = get_or xs i d })
-each_owned P n [] i d low all = absurd (omega (arith, low))
-each_owned P n (x ∷ xs) zero d low all = all.0
-each_owned P n (x ∷ xs) (suc i) d low all = each_owned P n xs i d (omega (arith, low)) all.1
+each_owned P n xs i d low all = each_at (λ x. P (record { owner = n; row = x })) xs i d low (each_of_map P _ xs all)
 
 -- rows that are put
 pub put_turns : {X : Type 0} (L : Layout X) → Turns (PutsAll L) (Puts L)
@@ -72,12 +76,6 @@ keys_turns stored n = record {
   more = λ xs x a b c before last. subst (λ ys. PutsAllOver key_layout stored ys a c) (sym (keys_snoc n xs x))
       (over_both key_layout stored (key_rows (owned_by n xs)) (option_to_list (answer_key x)) a b c before last);
 }
-
--- what holds of all rows holds of the one at a place
-pub each_at : {X : Type 0} (P : X → Type 0) (xs : List X) (i : ℕ) (d : X) → i < length xs → EachOf P xs → P (get_or xs i d)
-each_at P [] i d low all = absurd (omega (arith, low))
-each_at P (x ∷ xs) zero d low all = all.0
-each_at P (x ∷ xs) (suc i) d low all = each_at P xs i d (omega (arith, low)) all.1
 
 -- ---- what an order lists
 

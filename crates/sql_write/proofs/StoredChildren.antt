@@ -9,9 +9,9 @@ use Rattle.model_laws.specs.Distinct.{Distinct}
 use Rattle.desk_model.specs.Kept.{EachOf}
 use Rattle.desk_model.specs.declared.{objects.Answer.Answer, rows.AuthorizationRow.AuthorizationRow, rows.ChallengeRow.ChallengeRow}
 use Rattle.sql_write.specs.{Makes.AreFoundUnder, Makes.challenge_under, Makes.key_under, Stored.stored_challenge}
-use Rattle.sql_write.proofs.{Over.has_sorted, StoredRows.found_has, PlacedRows.each_at, PlacedRows.has_left, PlacedRows.has_right}
+use Rattle.sql_write.proofs.{Over.has_sorted, StoredRows.found_has, PlacedRows.each_at, PlacedRows.has_flat}
 use Rattle.sql_tables.specs.{Layouts.challenge_layout, Layouts.key_layout, Sorted.sorted_by}
-use Rattle.sql_tables.proofs.{AnswerKeys.keys_apart, HiddenUpsert.has_map}
+use Rattle.sql_tables.proofs.{AnswerKeys.keys_apart, Upsert.has_map}
 
 -- the row of this number stands among these, with these challenges and maybe more
 abbrev pub IsThere : List AuthorizationRow → ℕ → AuthorizationRow → Type 0
@@ -21,14 +21,7 @@ IsThere rows n a = (b : AuthorizationRow) × Has rows b × (b.number ≡ n) × E
 abbrev under : ℕ → ChallengeRow → Owned ChallengeRow
 under n c = record { owner = n; row = c }
 
--- the challenges of one are among those of all
-among_all : (rows : List AuthorizationRow) (a : AuthorizationRow) (c : ChallengeRow) → Has rows a → Has a.challenges c
-    → Has (challenge_rows rows) (under a.number c)
-among_all [] a c h own = absurd h
-among_all (b ∷ bs) a c (inl here) own = grind (arith, has_left, (has_map (under a.number) a.challenges c own))
-among_all (b ∷ bs) a c (inr there) own = grind (arith, has_right, (among_all bs a c there own))
-
--- so is the key of its answer
+-- the key of a challenge's answer is among those of all
 key_among : (cs : List (Owned ChallengeRow)) (c : Owned ChallengeRow) (k : AnswerKey) → Has cs c → answer_key c.row ≡ Some k → Has (key_rows cs) k
 key_among [] c k h is = absurd h
 key_among (d ∷ ds) c k (inl here) is = grind arith
@@ -41,7 +34,8 @@ stored_is n rows None there k c is = absurd (cc is)
 stored_is n rows (Some a) there k c is =
     let found = found_has (λ (r : ChallengeRow). r.number) k a.challenges c is in
     let own = each_at (λ d. Has there.0.challenges d) a.challenges c there.3 found.0 in
-    (subst (λ m. Has (challenge_rows rows) (under m c)) there.2 (among_all rows there.0 c there.1 own), found.1)
+    let among = has_flat (λ b. owned_by b.number b.challenges) rows there.0 (under there.0.number c) there.1 (has_map (under there.0.number) _ c own) in
+    (subst (λ m. Has (challenge_rows rows) (under m c)) there.2 among, found.1)
 
 -- what is known of the challenges stands in their table
 pub challenges_stand : (stored : Option AuthorizationRow) (n : ℕ) (cs : List ChallengeRow) (rows : List AuthorizationRow)

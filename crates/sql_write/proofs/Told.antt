@@ -1,21 +1,27 @@
 -- Statements run one after the other, and the one that was refused.
-use Rattle.std.proofs.Common.{◌≡◌, ℕ, zero, suc, ◌+◌, ◌-◌, ◌<◌, List, [], ◌∷◌, ◌++◌, Result, Ok, Err, IfErr, IsOk, refl, sym, ap, subst, ◌∙◌, arith, ◌⊎◌, inl}
-use Rattle.std.proofs.Common.{inr, add-one, append-nil, drop, get_or, length, take, rules}
+use Rattle.std.proofs.Common.{◌≡◌, ℕ, zero, suc, ◌+◌, ◌-◌, ◌<◌, List, [], ◌∷◌, ◌++◌, Result, Ok, Err, refl, sym, ap, subst, ◌∙◌, arith, add-one, append-nil}
+use Rattle.std.proofs.Common.{drop, get_or, length, take, rules}
 use Rattle.std.proofs.{Math.Seq.take-suc, lemmas.Grind.flat_map-append, lemmas.List.append_assoc, lemmas.List.take-append-drop}
-use Rattle.std.specs.{List.flat_map}
+use Rattle.std.specs.List.{flat_map}
 use Rattle.sqlite.specs.{Held.Held, Held.state, Order.Row, State.Survives, Store.Ghosts, declared.error.Error.Error}
 use Rattle.sql_schema.specs.Definitions.{definition_at}
-use Rattle.sql_schema.proofs.StaysLemmas.{asks_nothing}
 use Rattle.sql_write.proofs.Exits.{survives_both}
-use Rattle.sql_write.specs.Refusals.{FailedCommit, HaveBegun, HaveRun, IsCause, Ran, Refuses, Runs, Stops, begun}
-use Rattle.sql_write.specs.Statements.{Sql, defines, defines_before}
-use Rattle.sql_write.specs.{Committing.IsBeforeCommit, Numbers.IsNotTooLarge, declared.fault.SaveFault.SaveFault}
+use Rattle.sql_write.specs.Refusals.{HaveBegun, HaveRun, IsCause, Ran, Runs, Stops}
+use Rattle.sql_write.specs.{Statements.Sql, Statements.defines, Statements.defines_before, declared.fault.SaveFault.SaveFault}
 use Rattle.sql_write.specs.declared.fault.SaveFault.TheVariants as save
 
 -- the statements of one more row
 pub one_more : {X : Type 0} (of : X → List Sql) (rows : List X) (i : ℕ) (d : X) → i < length rows
     → flat_map of (take (i + 1) rows) ≡ flat_map of (take i rows) ++ of (get_or rows i d)
 one_more of rows i d low = grind (arith, flat_map-append, append-nil, (take-suc rows i d low))
+
+-- those of some rows, and of the next, begin those of all
+pub begins_with : {X : Type 0} (of : X → List Sql) (rows : List X) (i : ℕ) (d : X) → i < length rows
+    → (flat_map of (take i rows) ++ of (get_or rows i d)) ++ flat_map of (drop (i + 1) rows) ≡ flat_map of rows
+begins_with of rows i d low =
+    ap (λ all. all ++ flat_map of (drop (i + 1) rows)) (sym (one_more of rows i d low))
+    ∙ sym (flat_map-append of (take (i + 1) rows) (drop (i + 1) rows))
+    ∙ ap (flat_map of) (take-append-drop (i + 1) rows)
 
 -- two parts of the second of three lists
 among : (xs ys zs all ran rest : List Sql) → (xs ++ ys) ++ zs ≡ all → ys ≡ ran ++ rest → all ≡ (xs ++ ran) ++ (rest ++ zs)
@@ -67,16 +73,6 @@ module _ {S : Type 0} (g : Ghosts S) where
   ran_behind xs ys a b c (Ok x) first last = run_both xs ys a b c first last
   ran_behind xs ys a b c (Err why) first last = stops_among xs ys [] (xs ++ ys) (append-nil (xs ++ ys)) a b c why first last
 
-  -- ---- the rows of a list
-
-  -- the one that was refused
-  pub stops_at : {X : Type 0} (of : X → List Sql) (rows : List X) (i : ℕ) (d : X) (a b c : Held S) (why : SaveFault) → i < length rows
-      → HaveRun g (flat_map of (take i rows)) a b → Stops g (of (get_or rows i d)) b c why → Stops g (flat_map of rows) a c why
-  stops_at of rows i d a b c why low first last =
-      let begins = sym (flat_map-append of (take (i + 1) rows) (drop (i + 1) rows)) ∙ ap (flat_map of) (take-append-drop (i + 1) rows) in
-      stops_among (flat_map of (take i rows)) (of (get_or rows i d)) (flat_map of (drop (i + 1) rows)) (flat_map of rows)
-      (ap (λ all. all ++ flat_map of (drop (i + 1) rows)) (sym (one_more of rows i d low)) ∙ begins) a b c why first last
-
 -- those of the first steps begin those of more
 begin_with : (step more : ℕ) → (rest : List Sql) × (defines_before (more + step) ≡ defines_before step ++ rest)
 begin_with step zero = grind (arith, append-nil)
@@ -110,35 +106,7 @@ module _ {S : Type 0} (g : Ghosts S) where
 -- ---- the end of a transaction
 
 module _ {S : Type 0} (g : Ghosts S) (Fits : Type 0) (all : List Sql) (old : Held S) where
-  -- what stopped the statements, or the commit behind them, is the cause
-  pub caused : (first last after : Held S) → first ≡ begun old → (done result : Result (Unit {0}) SaveFault) → Ran g all first last done
-      → IfErr result (λ why. (done ≡ Err why) ⊎ (IsOk done × FailedCommit g last after why))
-      → IfErr result (λ why. IsBeforeCommit why → Survives (state g last) (state g after) (λ _. ⊥))
-      → (Fits → IfErr result IsNotTooLarge) → IfErr result (IsCause g Fits all old after)
-  caused first last after begins done (Ok u) ran why early fits = tt
-  caused first last after begins done (Err fault) ran (inl is) early fits =
-      stopped fault (subst (λ d. Ran g all first last d) is ran) early fits
-    where
-      stopped : (why : SaveFault) → Stops g all first last why → (IsBeforeCommit why → Survives (state g last) (state g after) (λ _. ⊥))
-          → (Fits → IsNotTooLarge why) → IsCause g Fits all old after why
-      stopped (save.Row why) stops early fits =
-          (last, subst (λ h. HaveBegun g all h last) begins stops, early tt, λ large all_fit. fits all_fit (ap save.Row large))
-      stopped (save.Statement error) stops early fits = (last, subst (λ h. Refuses g all h last error) begins stops, early tt)
-      stopped (save.Commit error) stops early fits = absurd stops
-  caused first last after begins done (Err fault) ran (inr it) early fits =
-      subst (IsCause g Fits all old after) (sym it.1.is) (
-        last,
-        after,
-        subst (λ h. HaveRun g all h last) begins (whole done ran it.0),
-        it.1.fails,
-        (asks_nothing (state g after)).survives,
-      )
-    where
-      whole : (d : Result (Unit {0}) SaveFault) → Ran g all first last d → IsOk d → HaveRun g all first last
-      whole (Ok u) ran is = ran
-      whole (Err why) ran is = absurd (cc is)
-
-  -- it is so behind calls that commit nothing
+  -- what is the cause is so behind calls that commit nothing, too
   pub cause_then : (mid new : Held S) (why : SaveFault) → IsCause g Fits all old mid why → Survives (state g mid) (state g new) (λ _. ⊥)
       → IsCause g Fits all old new why
   cause_then mid new (save.Row why) it on = (it.0, it.1, survives_both (state g it.0) (state g mid) (state g new) it.2 on, it.3)

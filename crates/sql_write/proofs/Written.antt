@@ -1,13 +1,13 @@
 -- Calls that write, one after the other.
 use Rattle.std.specs.List.{flat_map}
-use Rattle.std.proofs.Common.{◌≡◌, ℕ, ◌+◌, ◌<◌, ◌≤◌, ◌∙◌, List, [], ◌∷◌, ◌++◌, Result, Ok, Err, OnOk, add-one, ap, get_or, length, refl, sym, subst, take}
+use Rattle.std.proofs.Common.{◌≡◌, ℕ, ◌+◌, ◌<◌, ◌≤◌, ◌∙◌, List, [], ◌∷◌, ◌++◌, Result, Ok, Err, OnOk, add-one, ap, drop, get_or, length, refl, sym, subst, take}
 use Rattle.std.proofs.Common.{take_all}
 use Rattle.std.proofs.Math.Seq.{take-suc}
 use Rattle.sqlite.specs.{Effect.Database, Order.Row, Store.Ghosts, Held.Held, Held.state}
 use Rattle.sql_schema.proofs.{AdvanceLemmas.advances_as, AdvanceLemmas.performs_keeps, StaysLemmas.asks_nothing}
 use Rattle.sql_schema.specs.Advances.{Advances, Performs}
 use Rattle.sql_write.proofs.Exits.{advances_both, kept_behind, survives_both}
-use Rattle.sql_write.proofs.Told.{none_begun, one_more, ran_behind, runs_with, stops_among, stops_some, stops_at}
+use Rattle.sql_write.proofs.Told.{begins_with, none_begun, one_more, ran_behind, runs_with, stops_among, stops_some}
 use Rattle.sql_write.specs.Refusals.{HasWritten, IsRun, Stops}
 use Rattle.sql_write.specs.{Statements.Sql, declared.fault.SaveFault.SaveFault, declared.fault.WriteFault.WriteFault}
 use Rattle.sql_write.specs.declared.fault.SaveFault.TheVariants as save
@@ -119,36 +119,37 @@ pub record Turns {X : Type 0} (Does : List X → Doing) (Each : X → Doing) : T
   pub none : (a : Database) → Does [] a a
   pub more : (xs : List X) (x : X) (a b c : Database) → Does xs a b → Each x b c → Does (xs ++ x ∷ []) a c
 
-module _ {S : Type 0} (g : Ghosts S) {X : Type 0} (of : X → List Sql) {Does : List X → Doing} {Each : X → Doing} (turns : Turns Does Each) (rows : List X) where
-  -- so many of them are written
-  abbrev pub HasWrittenFirst : ℕ → Held S → Held S → Type 0
-  HasWrittenFirst i a b = HasWritten g {X = Unit {0}} (flat_map of (take i rows)) (Does (take i rows)) a b (Ok tt)
+-- so many rows are written, one after the other
+pub record HasWrittenFirst {S X : Type 0} (g : Ghosts S) (of : X → List Sql) {Does : List X → Doing} {Each : X → Doing} (turns : Turns Does Each)
+    (rows : List X) (i : ℕ) (a b : Held S) : Type 0 where
+  pub first : HasWritten g {X = Unit {0}} (flat_map of (take i rows)) (Does (take i rows)) a b (Ok tt)
 
+module _ {S X : Type 0} {g : Ghosts S} {of : X → List Sql} {Does : List X → Doing} {Each : X → Doing} {turns : Turns Does Each} {rows : List X} where
   -- none
-  pub turned_none : (a : Held S) → HasWrittenFirst 0 a a
-  turned_none a = nothing_written g (Does []) a tt (turns.none (state g a).now)
+  pub turned_none : (a : Held S) → HasWrittenFirst g of turns rows 0 a a
+  turned_none a = record { first = nothing_written g (Does []) a tt (turns.none (state g a).now) }
 
   -- one more
-  pub turned_more : (i : ℕ) (d : X) (a b c : Held S) → i < length rows → HasWrittenFirst i a b
-      → HasWritten g {X = Unit {0}} (of (get_or rows i d)) (Each (get_or rows i d)) b c (Ok tt) → HasWrittenFirst (i + 1) a c
-  turned_more i d a b c low first last =
+  pub turned_more : {i : ℕ} {a b c : Held S} (d : X) → HasWrittenFirst g of turns rows i a b → i < length rows
+      → HasWritten g {X = Unit {0}} (of (get_or rows i d)) (Each (get_or rows i d)) b c (Ok tt) → HasWrittenFirst g of turns rows (i + 1) a c
+  turned_more {i} {a} {b} {c} d before low last =
       let x = get_or rows i d in
-      written_with g _ _ (Does (take (i + 1) rows)) a c (Ok tt) (sym (one_more of rows i d low))
-      (subst (λ xs. HasWritten g {X = Unit {0}} (flat_map of (take i rows) ++ of x) (Does xs) a c (Ok tt))
-      (sym (ap (λ k. take k rows) (add-one i) ∙ take-suc rows i d low))
-      (written_then g (flat_map of (take i rows)) (of x) (Does (take i rows)) (Each x) (Does (take i rows ++ x ∷ [])) a b c tt (Ok tt)
-      (turns.more (take i rows) x _ _ _) first last))
+      record {
+        first = written_with g _ _ (Does (take (i + 1) rows)) a c (Ok tt) (sym (one_more of rows i d low))
+            (subst (λ xs. HasWritten g {X = Unit {0}} (flat_map of (take i rows) ++ of x) (Does xs) a c (Ok tt))
+            (sym (ap (λ k. take k rows) (add-one i) ∙ take-suc rows i d low))
+            (written_then g (flat_map of (take i rows)) (of x) (Does (take i rows)) (Each x) (Does (take i rows ++ x ∷ [])) a b c tt (Ok tt)
+            (turns.more (take i rows) x _ _ _) before.first last));
+      }
 
   -- the one that failed
-  pub turned_until : {Y Z : Type 0} (i : ℕ) (d : X) (B : Doing) (a b c : Held S) (why : SaveFault) → i < length rows → HasWrittenFirst i a b
-      → HasWritten g {X = Y} (of (get_or rows i d)) B b c (Err why) → HasWritten g {X = Z} (flat_map of rows) (Does rows) a c (Err why)
-  turned_until i d B a b c why low first last = record {
-    does = tt;
-    kept = kept_behind (state g a) (state g b) (state g c) (Does (take i rows)) first.does last.survives last.kept;
-    survives = survives_both (state g a) (state g b) (state g c) first.survives last.survives;
-    told = stops_at g of rows i d a b c why low first.told last.told;
-  }
+  pub turned_until : {i : ℕ} {Y : Type 0} {B : Doing} {a b c : Held S} {why : SaveFault} (d : X) → HasWrittenFirst g of turns rows i a b → i < length rows
+      → HasWritten g {X = Y} (of (get_or rows i d)) B b c (Err why) → HasWritten g {X = Unit {0}} (flat_map of rows) (Does rows) a c (Err why)
+  turned_until {i} {B = B} {a = a} {b = b} {c = c} {why = why} d before low last =
+      written_through g (flat_map of (take i rows)) (of (get_or rows i d)) (flat_map of (drop (i + 1) rows)) (flat_map of rows)
+      (begins_with of rows i d low) (Does (take i rows)) B (Does rows) a b c tt why before.first last
 
   -- all
-  pub turned_all : (i : ℕ) (a b : Held S) → length rows ≤ i → HasWrittenFirst i a b → HasWritten g {X = Unit {0}} (flat_map of rows) (Does rows) a b (Ok tt)
-  turned_all i a b high = subst (λ xs. HasWritten g {X = Unit {0}} (flat_map of xs) (Does xs) a b (Ok tt)) (take_all i rows high)
+  pub turned_all : {i : ℕ} {a b : Held S} → HasWrittenFirst g of turns rows i a b → length rows ≤ i
+      → HasWritten g {X = Unit {0}} (flat_map of rows) (Does rows) a b (Ok tt)
+  turned_all {i} {a} {b} all high = subst (λ xs. HasWritten g {X = Unit {0}} (flat_map of xs) (Does xs) a b (Ok tt)) (take_all i rows high) all.first

@@ -180,6 +180,7 @@ fn write_order<S: Alter>(
 }
 
 // Saves an order, of which this row is stored.
+#[tactic(auto, using(crate::proofs::Differing::order_keeps, crate::proofs::Differing::order_written, crate::proofs::Written::written_as, crate::proofs::Written::written_with))]
 fn save_order<S: Alter>(
     alloc: Global,
     tx: &mut Transaction<'_, S>,

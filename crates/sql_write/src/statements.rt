@@ -25,6 +25,7 @@ use sqlite::{Alter, Error, Transaction};
 ///
 /// As `Transaction::execute`: where the statement is refused, the transaction goes on as it was; where memory or the disk
 /// fails, it is over.
+#[tactic(auto, using(sql_schema::proofs::AdvanceLemmas::declines_unless_answered, sql_schema::proofs::AdvanceLemmas::performs_keeps))]
 pub(crate) fn execute<S: Alter>(
     tx: &mut Transaction<'_, S>,
     text: &str,

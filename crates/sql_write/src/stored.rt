@@ -132,6 +132,7 @@ impl Stored for AuthorizationRow {
 
 /// The row of this number that is known behind these changes: the last that one of them puts, or else that of the part. None of
 /// them puts one whose number is above the highest, so that rows in the order of their numbers cost no look through the others.
+#[tactic(auto, using(crate::proofs::StoredRows::applied_more, crate::proofs::StoredRows::copied_or, crate::proofs::StoredRows::left_by_all, std::proofs::Common::take_all))]
 pub(crate) fn stored_row<'a, R: Stored>(
     part: &'a Book,
     before: &'a [Change],

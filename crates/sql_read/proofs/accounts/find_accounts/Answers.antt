@@ -1,12 +1,8 @@
-use Rattle.model_lives.specs.LookUps.{accounts_where}
-use Rattle.sql_read.proofs.{LookUpReadings.accounts_asked, LookUpRows.accounts_find, Looking.finds_as, Looking.looked, Looking.query_as}
+use Rattle.sql_read.proofs.{LookUpReadings.accounts_asked, LookUpRows.accounts_find, Looking.looked_as, Looking.query_as}
 use Rattle.sql_read.proofs.accounts.find_accounts.Goals as goal
 
 pub find_rows-requires : goal.find_rows-requires
 find_rows-requires g c = query_as c.query_of.ensures (accounts_asked c.args.which).selecting
 
 pub returns : goal.returns
-returns g c =
-    looked (λ T. accounts_where T c.args.which)
-    (λ T has book. finds_as c.query_of.ensures (accounts_find g.S.Store c.args.conn.now T has book c.args.which))
-    (λ T has book rows are. are) c.find_rows.ensures
+returns g c = looked_as c.query_of.ensures (λ T has book. accounts_find g.S.Store c.args.conn.now T has book c.args.which) c.find_rows.ensures

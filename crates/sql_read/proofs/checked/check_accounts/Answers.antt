@@ -1,22 +1,21 @@
-use Rattle.std.proofs.Common.{ap, inl, inr, map, subst, sym, ◌∙◌}
+use Rattle.std.proofs.Common.{ap, inl, inr, map, subst, sym, ◌∙◌, rules}
 use Rattle.store_book.specs.BookRows.{AreAccounts}
 use Rattle.store_columns.proofs.RowsApart.{accounts-apart}
-use Rattle.sql_read.specs.declared.formats.Format.TheVariants.{Second}
-use Rattle.sql_read.proofs.BookChecks.{checks_failed, checks_stopped, checks_then, in_format}
-use Rattle.sql_read.proofs.{Streaming.shown_same, Readings.accounts_reading, ShownTables.accounts_shown, WholeTables.accounts_whole}
+use Rattle.sql_read.specs.{BookShown.ShowsOrders, declared.formats.Format.TheVariants.Second}
+use Rattle.sql_read.proofs.BookChecks.{checks_failed, checks_stopped, checks_then, in_format, table_as}
+use Rattle.sql_read.proofs.{Streaming.shown_same, Readings.accounts_reading, WholeTables.accounts_whole}
 use Rattle.sql_read.proofs.checked.check_accounts.Goals as goal
 
-pub check_table-requires-clause-query : goal.check_table-requires-clause-query
-check_table-requires-clause-query g c = (accounts_reading Second).selecting
-
-pub check_table-requires-clause-apart : goal.check_table-requires-clause-apart
-check_table-requires-clause-apart g c = accounts-apart
+pub check_table-requires : goal.check_table-requires
+check_table-requires g c = record { query = (accounts_reading Second).selecting; apart = accounts-apart; begun = search rules }
 
 pub returns : goal.returns
 returns g c =
-    checks_then g.S.Store c.check_orders.ensures (λ clean rest. accounts_shown g.S.Store _ c.args.format c.args.last _ c.in-Some.accounts
-    (ap (λ k. k.last) c.new-check.ensures.counter)
-    (rw c.in-Some.is at (c.in_ok-accounts.ensures.whole clean)) rest)
+    checks_then g.S.Store c.check_orders.ensures (λ clean rest.
+    let table = rw c.in-Some.is at (c.in_ok-accounts.ensures.whole clean) in record {
+      table = table_as table (λ rows is. subst (λ n. AreAccounts n rows) (ap (λ k. k.last) c.new-check.ensures.counter) is.0);
+      orders = subst (ShowsOrders g.S.Store _ c.args.format c.args.last) table.is.1 rest;
+    })
     (λ clean meta rows shows kept.
     let table = rw c.in-Some.is at (c.in_ok-accounts.ensures.whole clean) in (
       kept,

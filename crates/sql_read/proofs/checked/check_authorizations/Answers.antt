@@ -1,21 +1,22 @@
-use Rattle.std.proofs.Common.{ap, inl, inr, map, ◌∙◌}
+use Rattle.std.proofs.Common.{ap, inl, inr, map, subst, subst₂, ◌∙◌, rules}
 use Rattle.store_columns.proofs.RowsApart.{authorizations-apart}
-use Rattle.sql_read.specs.declared.formats.Format.TheVariants.{Second}
+use Rattle.store_book.specs.BookRows.{AreAuthorizations}
+use Rattle.sql_read.specs.{BookShown.ShowsListed, declared.formats.Format.TheVariants.Second}
 use Rattle.sql_read.proofs.{AllRows.all_authorizations, Streaming.shown_same, BookChecks.checks_failed, BookChecks.checks_stopped, BookChecks.checks_then}
-use Rattle.sql_read.proofs.{BookChecks.in_format, Readings.authorizations_reading, ShownTables.authorizations_shown, WholeTables.authorizations_whole}
+use Rattle.sql_read.proofs.{BookChecks.in_format, BookChecks.table_as, Readings.authorizations_reading, WholeTables.authorizations_whole}
 use Rattle.sql_read.proofs.checked.check_authorizations.Goals as goal
 
-pub check_table-requires-clause-query : goal.check_table-requires-clause-query
-check_table-requires-clause-query g c = (authorizations_reading Second).selecting
-
-pub check_table-requires-clause-apart : goal.check_table-requires-clause-apart
-check_table-requires-clause-apart g c = authorizations-apart
+pub check_table-requires : goal.check_table-requires
+check_table-requires g c = record { query = (authorizations_reading Second).selecting; apart = authorizations-apart; begun = search rules }
 
 pub returns : goal.returns
 returns g c =
-    checks_then g.S.Store c.check_listed.ensures (λ clean rest. authorizations_shown g.S.Store _ c.args.format c.args.last _ _ c.args.accounts.now
-    c.args.orders.now c.in-Some.authorizations (ap (λ k. k.last) c.new-check.ensures.counter) c.new-check.ensures.owners
-    (rw c.in-Some.is at (c.in_ok-authorizations.ensures.whole clean)) rest)
+    checks_then g.S.Store c.check_listed.ensures (λ clean rest.
+    let table = rw c.in-Some.is at (c.in_ok-authorizations.ensures.whole clean) in record {
+      table = table_as table
+          (λ rows is. subst₂ (λ n l. AreAuthorizations n l rows) (ap (λ k. k.last) c.new-check.ensures.counter) c.new-check.ensures.owners is.0);
+      listed = subst (ShowsListed g.S.Store _ c.args.format c.args.last c.args.orders.now) table.is.1 rest;
+    })
     (λ clean meta rows shows kept.
     let table = rw c.in-Some.is at (c.in_ok-authorizations.ensures.whole clean) in (
       kept.0,

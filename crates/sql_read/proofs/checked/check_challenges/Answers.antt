@@ -1,18 +1,14 @@
-use Rattle.std.proofs.Common.{◌≡◌, ap, inr, subst, sym, ◌∙◌}
+use Rattle.std.proofs.Common.{◌≡◌, ap, inr, subst, subst₂, sym, ◌∙◌, rules}
 use Rattle.sqlite.specs.Held.{state}
-use Rattle.store_book.specs.BookRows.{answered_numbers}
+use Rattle.store_book.specs.BookRows.{AreChallenges, answered_numbers}
 use Rattle.store_columns.proofs.RowsApart.{challenges-apart}
 use Rattle.sql_read.specs.{BookShown.Checks, BookShown.ShowsKeysIn, declared.formats.Format.TheVariants.Second}
-use Rattle.sql_read.proofs.{AllRows.all_challenges, Streaming.shown_same}
-use Rattle.sql_read.proofs.BookChecks.{checks_failed, checks_last, checks_stopped, checks_then, in_format}
-use Rattle.sql_read.proofs.{Readings.challenges_reading, ShownTables.challenges_shown, WholeTables.challenges_whole}
+use Rattle.sql_read.proofs.{AllRows.all_challenges, Streaming.shown_same, Readings.challenges_reading, WholeTables.challenges_whole}
+use Rattle.sql_read.proofs.BookChecks.{checks_failed, checks_last, checks_stopped, checks_then, in_format, table_as}
 use Rattle.sql_read.proofs.checked.check_challenges.Goals as goal
 
-pub check_table-requires-clause-query : goal.check_table-requires-clause-query
-check_table-requires-clause-query g c = (challenges_reading Second).selecting
-
-pub check_table-requires-clause-apart : goal.check_table-requires-clause-apart
-check_table-requires-clause-apart g c = challenges-apart
+pub check_table-requires : goal.check_table-requires
+check_table-requires g c = record { query = (challenges_reading Second).selecting; apart = challenges-apart; begun = search rules }
 
 pub returns : goal.returns
 returns g c =
@@ -20,9 +16,11 @@ returns g c =
     (subst (λ f. Checks g.S.Store f c.check_table.new.conn c.check_keys.new.conn (λ db. ShowsKeysIn g.S.Store db f c.in-Some.answered)
     (λ _ meta rows. c.in-Some.answered ≡ answered_numbers rows.challenges) c.check_keys.result)
     (sym c.in-Second.is) c.check_keys.ensures) (λ clean rest.
-    challenges_shown g.S.Store _ c.args.format c.args.last _ _ c.args.authorizations.now c.in-Some.answered (ap (λ k. k.last) c.new-check.ensures.counter)
-    c.new-check.ensures.authorizations
-    (rw c.in-Some.is at (c.in_ok-answered.ensures.whole clean)) rest)
+    let table = rw c.in-Some.is at (c.in_ok-answered.ensures.whole clean) in record {
+      table = table_as table
+          (λ rows is. subst₂ (λ n l. AreChallenges n l rows) (ap (λ k. k.last) c.new-check.ensures.counter) c.new-check.ensures.authorizations is.0);
+      keys = subst (ShowsKeysIn g.S.Store _ c.args.format) table.is.1 rest;
+    })
     (λ clean meta rows shows kept.
     let table = rw c.in-Some.is at (c.in_ok-answered.ensures.whole clean) in
     table.is.1
@@ -33,10 +31,11 @@ returns g c =
 pub returns-in-First : goal.returns-in-First
 returns-in-First g c =
     checks_last g.S.Store (λ clean.
-    challenges_shown g.S.Store _ c.args.format c.args.last _ _ c.args.authorizations.now c.in-Some.answered (ap (λ k. k.last) c.new-check.ensures.counter)
-    c.new-check.ensures.authorizations
-    (rw c.in-Some.is at (c.in_ok-answered.ensures.whole clean))
-    (subst (λ f. ShowsKeysIn g.S.Store (state g.S.Store c.args.conn.now).now f c.in-Some.answered) (sym c.in-First.is) tt))
+    let table = rw c.in-Some.is at (c.in_ok-answered.ensures.whole clean) in record {
+      table = table_as table
+          (λ rows is. subst₂ (λ n l. AreChallenges n l rows) (ap (λ k. k.last) c.new-check.ensures.counter) c.new-check.ensures.authorizations is.0);
+      keys = subst (λ f. ShowsKeysIn g.S.Store (state g.S.Store c.args.conn.now).now f (answered_numbers table.rows)) (sym c.in-First.is) tt;
+    })
     c.in_ok-answered.ensures.unchanged c.in_ok-answered.ensures.asks
 
 pub returns-in_err-answered : goal.returns-in_err-answered

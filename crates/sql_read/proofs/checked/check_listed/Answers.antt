@@ -1,4 +1,4 @@
-use Rattle.std.proofs.Common.{inl, inr, subst, ◌∙◌}
+use Rattle.std.proofs.Common.{inl, inr, subst, ◌∙◌, rules}
 use Rattle.store_columns.proofs.RowsApart.{listed-apart}
 use Rattle.store_book.specs.BookRows.{AreListed}
 use Rattle.sql_read.specs.declared.formats.Format.TheVariants.{Second}
@@ -6,11 +6,8 @@ use Rattle.sql_read.proofs.BookChecks.{checks_failed, checks_stopped, checks_the
 use Rattle.sql_read.proofs.{AllRows.all_listed, Readings.listed_reading, WholeTables.listed_readable}
 use Rattle.sql_read.proofs.checked.check_listed.Goals as goal
 
-pub check_table-requires-clause-query : goal.check_table-requires-clause-query
-check_table-requires-clause-query g c = (listed_reading Second).selecting
-
-pub check_table-requires-clause-apart : goal.check_table-requires-clause-apart
-check_table-requires-clause-apart g c = listed-apart
+pub check_table-requires : goal.check_table-requires
+check_table-requires g c = record { query = (listed_reading Second).selecting; apart = listed-apart; begun = search rules }
 
 pub returns : goal.returns
 returns g c = checks_then g.S.Store c.check_challenges.ensures (λ clean rest. record {

@@ -1,15 +1,12 @@
-use Rattle.std.proofs.Common.{inl, ◌∙◌}
+use Rattle.std.proofs.Common.{inl, ◌∙◌, rules}
 use Rattle.store_columns.proofs.RowsApart.{metas-apart}
 use Rattle.sql_read.proofs.BookChecks.{checks_failed, checks_stopped, checks_then}
 use Rattle.sql_read.proofs.{AllRows.counters_kept, Streaming.shown_same, Readings.meta_reading, WholeTables.meta_whole}
 use Rattle.sql_read.specs.declared.formats.Format.TheVariants.{Second}
 use Rattle.sql_read.proofs.checked.check_meta.Goals as goal
 
-pub check_table-requires-clause-query : goal.check_table-requires-clause-query
-check_table-requires-clause-query g c = (meta_reading Second).selecting
-
-pub check_table-requires-clause-apart : goal.check_table-requires-clause-apart
-check_table-requires-clause-apart g c = metas-apart
+pub check_table-requires : goal.check_table-requires
+check_table-requires g c = record { query = (meta_reading Second).selecting; apart = metas-apart; begun = search rules }
 
 pub returns : goal.returns
 returns g c = checks_then g.S.Store c.check_nonces.ensures (λ clean rest. record {

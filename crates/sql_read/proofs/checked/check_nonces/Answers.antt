@@ -1,4 +1,4 @@
-use Rattle.std.proofs.Common.{ap, inl, inr, subst, sym, ◌∙◌}
+use Rattle.std.proofs.Common.{ap, inl, inr, subst, sym, ◌∙◌, rules}
 use Rattle.store_columns.proofs.RowsApart.{nonces-apart}
 use Rattle.model_laws.specs.Ordered.{IsTable}
 use Rattle.sql_read.specs.declared.formats.Format.TheVariants.{Second}
@@ -6,11 +6,8 @@ use Rattle.sql_read.proofs.BookChecks.{checks_failed, checks_stopped, checks_the
 use Rattle.sql_read.proofs.{Readings.nonces_reading, WholeTables.nonces_whole}
 use Rattle.sql_read.proofs.checked.check_nonces.Goals as goal
 
-pub check_table-requires-clause-query : goal.check_table-requires-clause-query
-check_table-requires-clause-query g c = (nonces_reading Second).selecting
-
-pub check_table-requires-clause-apart : goal.check_table-requires-clause-apart
-check_table-requires-clause-apart g c = nonces-apart
+pub check_table-requires : goal.check_table-requires
+check_table-requires g c = record { query = (nonces_reading Second).selecting; apart = nonces-apart; begun = search rules }
 
 pub returns : goal.returns
 returns g c = checks_then g.S.Store c.check_accounts.ensures (λ clean rest. record {

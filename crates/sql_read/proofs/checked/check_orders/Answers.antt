@@ -1,21 +1,22 @@
-use Rattle.std.proofs.Common.{ap, inl, inr, map, ◌∙◌}
+use Rattle.std.proofs.Common.{ap, inl, inr, map, subst, subst₂, ◌∙◌, rules}
 use Rattle.store_columns.proofs.RowsApart.{orders-apart}
-use Rattle.sql_read.specs.declared.formats.Format.TheVariants.{Second}
-use Rattle.sql_read.proofs.BookChecks.{checks_failed, checks_stopped, checks_then, in_format}
-use Rattle.sql_read.proofs.{AllRows.all_orders, Streaming.shown_same, Readings.orders_reading, ShownTables.orders_shown, WholeTables.orders_whole}
+use Rattle.store_book.specs.BookRows.{AreOrders}
+use Rattle.sql_read.specs.{BookShown.ShowsAuthorizations, declared.formats.Format.TheVariants.Second}
+use Rattle.sql_read.proofs.BookChecks.{checks_failed, checks_stopped, checks_then, in_format, table_as}
+use Rattle.sql_read.proofs.{AllRows.all_orders, Streaming.shown_same, Readings.orders_reading, WholeTables.orders_whole}
 use Rattle.sql_read.proofs.checked.check_orders.Goals as goal
 
-pub check_table-requires-clause-query : goal.check_table-requires-clause-query
-check_table-requires-clause-query g c = (orders_reading Second).selecting
-
-pub check_table-requires-clause-apart : goal.check_table-requires-clause-apart
-check_table-requires-clause-apart g c = orders-apart
+pub check_table-requires : goal.check_table-requires
+check_table-requires g c = record { query = (orders_reading Second).selecting; apart = orders-apart; begun = search rules }
 
 pub returns : goal.returns
 returns g c =
-    checks_then g.S.Store c.check_authorizations.ensures (λ clean rest. orders_shown g.S.Store _ c.args.format c.args.last _ _ c.args.accounts.now
-    c.in-Some.orders (ap (λ k. k.last) c.new-check.ensures.counter) c.new-check.ensures.owners
-    (rw c.in-Some.is at (c.in_ok-orders.ensures.whole clean)) rest)
+    checks_then g.S.Store c.check_authorizations.ensures (λ clean rest.
+    let table = rw c.in-Some.is at (c.in_ok-orders.ensures.whole clean) in record {
+      table = table_as table
+          (λ rows is. subst₂ (λ n l. AreOrders n l rows) (ap (λ k. k.last) c.new-check.ensures.counter) c.new-check.ensures.owners is.0);
+      authorizations = subst (ShowsAuthorizations g.S.Store _ c.args.format c.args.last c.args.accounts.now) table.is.1 rest;
+    })
     (λ clean meta rows shows kept.
     let table = rw c.in-Some.is at (c.in_ok-orders.ensures.whole clean) in (
       kept.0,

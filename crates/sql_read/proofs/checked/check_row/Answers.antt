@@ -1,4 +1,4 @@
-use Rattle.std.proofs.Common.{false, sym, subst, ◌++◌, ◌∷◌, ◌∙◌}
+use Rattle.std.proofs.Common.{sym, subst, ◌++◌, ◌∷◌, ◌∙◌}
 use Rattle.sql_read.proofs.checked.check_row.Goals as goal
 
 pub returns-clause-stopped : goal.returns-clause-stopped

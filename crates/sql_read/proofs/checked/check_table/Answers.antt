@@ -11,7 +11,3 @@ returns-clause-none g c clean =
     none_kept g.S.Store c.args.text.now g.C.Selected.spelled g.C.Columns.write g.C.Selected.Fits g.C.Columns.IsStored c.requires.apart
     g.K.RowCheck.Passed g.K.RowCheck.AreAll c.args.conn.now c.args.check c.check_each.new.check c.requires.begun
     (c.in_ok-check_each.ensures.passed clean c.if-not-branch.false) c.in_ok-finish.field-0 c.in_ok-finish.ensures.fine
-
-pub returns-then-not-branch-clause-none : goal.returns-then-not-branch-clause-none
-returns-then-not-branch-clause-none g c clean none all stored only are =
-    c.in_ok-check_each.ensures.stopped clean c.if-not-branch.true all stored only c.requires.begun are

@@ -1,5 +1,4 @@
-use Rattle.sql_read.proofs.{FirstChecked.has_first_book, FirstChecked.meta_is, Results.none_said, Results.read_then}
-use Rattle.sql_read.specs.FirstRows.{IsFirstMeta}
+use Rattle.sql_read.proofs.{FirstChecked.has_first_book, FirstChecked.meta_is, Results.read_then}
 use Rattle.sql_read.proofs.first.first_meta.Goals as goal
 
 pub returns-clause-book : goal.returns-clause-book
@@ -9,11 +8,3 @@ returns-clause-book g c clean =
 pub returns-clause-found : goal.returns-clause-found
 returns-clause-found g c clean T has book =
     read_then c.checked_meta.result (c.checked_meta.ensures.shown clean) (λ answer is. meta_is g.S.Store c.args.conn.now T has book answer is)
-
-pub returns-clause-none : goal.returns-clause-none
-returns-clause-none g c clean =
-    read_then c.checked_meta.result (c.checked_meta.ensures.shown clean) (λ answer is none.
-    none_said _ (IsFirstMeta g.S.Store c.args.conn.now) answer is none)
-
-pub returns-clause-fails : goal.returns-clause-fails
-returns-clause-fails g c clean T has may texts = c.checked_meta.ensures.fails clean may (record { tables = T; holds = has; texts = texts })

@@ -1,5 +1,4 @@
-use Rattle.std.proofs.Common.{◌≡◌, ◌≢◌, [], ◌∷◌, inl, inr, map, refl, ◌∙◌}
-use Rattle.std.proofs.lemmas.Simd.{map-map}
+use Rattle.std.proofs.{Common.◌≡◌, Common.◌≢◌, Common.[], Common.◌∷◌, Common.inl, Common.inr, Common.map, Common.refl, Common.◌∙◌, lemmas.Simd.map-map}
 use Rattle.store_columns.specs.{Columns.meta_columns, Limits.IsStoredMeta}
 use Rattle.desk_model.specs.declared.rows.Meta.{Meta}
 use Rattle.sql_read.specs.{Failures.IsOutOfMemory, First.raised_meta, Spelled.meta_in, declared.formats.Format.TheVariants.Second}

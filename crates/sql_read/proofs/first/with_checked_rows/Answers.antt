@@ -1,11 +1,6 @@
 use Rattle.std.proofs.Common.{refl}
-use Rattle.sql_read.proofs.FirstChecked.{reads_err, reads_ok}
+use Rattle.sql_read.proofs.FirstChecked.{reads_ok}
 use Rattle.sql_read.proofs.first.with_checked_rows.Goals as goal
-
-pub returns-in-Err : goal.returns-in-Err
-returns-in-Err g c =
-    let checks = c.in-Err.ensures in
-    reads_err g.S.Store (λ clean may is. checks.fails clean is.tables is.holds may is.texts) checks.refused checks.met checks.asks
 
 pub returns-in-Ok-true : goal.returns-in-Ok-true
 returns-in-Ok-true g c =

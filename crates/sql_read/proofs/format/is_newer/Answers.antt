@@ -1,17 +1,12 @@
-use Rattle.std.proofs.Common.{IsTrue, sym, ◌∙◌}
 use Rattle.sqlite.specs.Held.{state}
 use Rattle.sql_read.proofs.FormatLemmas.{desk_fails, later_fails, later_is_newer, never_newer}
 use Rattle.sql_read.proofs.{Readings.format_reading, Looking.query_as, Looking.rows_as, Results.failed_as, Results.not_true}
 use Rattle.sql_schema.specs.Failing.{IsFailure}
-use Rattle.sql_read.specs.{Format.FailsToShowFormat, declared.formats.Format.TheVariants.First, declared.formats.Format.TheVariants.Second}
+use Rattle.sql_read.specs.{declared.formats.Format.TheVariants.First, declared.formats.Format.TheVariants.Second}
 use Rattle.sql_read.proofs.format.is_newer.Goals as goal
 
 pub all_rows-requires : goal.all_rows-requires
 all_rows-requires g c = query_as c.all.ensures (format_reading Second).selecting
-
-pub returns-clause-newer : goal.returns-clause-newer
-returns-clause-newer g c clean told =
-    (_, (rows_as (λ rows. rows.items) c.all.ensures c.in_ok-rows.ensures).shown clean, rw (c.deref.ensures.value) at (c.is_newer_row.ensures.0 told))
 
 pub returns-clause-desk : goal.returns-clause-desk
 returns-clause-desk g c clean T has =
@@ -19,15 +14,6 @@ returns-clause-desk g c clean T has =
     never_newer Second (state g.S.Store c.args.conn.now) (state g.S.Store c.all_rows.new.conn) T _ has
     ((rows_as (λ rows. rows.items) c.all.ensures c.in_ok-rows.ensures).shown clean)
     (rw (c.deref.ensures.value) at (c.is_newer_row.ensures.0 told)))
-
-pub returns-clause-shows : goal.returns-clause-shows
-returns-clause-shows g c clean not_told = (
-  _,
-  (rows_as (λ rows. rows.items) c.all.ensures c.in_ok-rows.ensures).shown clean,
-  λ newer.
-      let told : IsTrue c.is_newer_row.result = c.is_newer_row.ensures.1 (rw (← c.deref.ensures.value) at newer) in
-      absurd (let e = sym told ∙ not_told in cc),
-)
 
 pub returns-in_err-rows-clause-fails : goal.returns-in_err-rows-clause-fails
 returns-in_err-rows-clause-fails g c clean T has may =
@@ -61,11 +47,4 @@ returns-in_err-rows-clause-later_fails g c clean later may =
     failed_as c.from_residual.result c.in_err-rows.field-0.0 IsFailure
     (later_fails (state g.S.Store c.args.conn.now) (state g.S.Store c.all_rows.new.conn) c.in_err-rows.field-0.0 later may
     ((rows_as (λ rows. rows.items) c.all.ensures c.in_err-rows.ensures).fails clean))
-    c.from_residual.ensures.1
-
-pub returns-in_err-rows-clause-refused : goal.returns-in_err-rows-clause-refused
-returns-in_err-rows-clause-refused g c clean =
-    failed_as c.from_residual.result c.in_err-rows.field-0.0
-    (FailsToShowFormat (state g.S.Store c.args.conn.now) (state g.S.Store c.all_rows.new.conn))
-    ((rows_as (λ rows. rows.items) c.all.ensures c.in_err-rows.ensures).fails clean)
     c.from_residual.ensures.1

@@ -1,5 +1,4 @@
-use Rattle.std.proofs.Common.{◌++◌, [], ◌∷◌, ◌∙◌, ap, append-nil, append_assoc, arith, refl, sym}
-use Rattle.std.proofs.lemmas.List.{nil_from_length}
+use Rattle.std.proofs.Common.{◌++◌, [], ◌∷◌, ◌∙◌, ap, append_assoc, refl, sym}
 use Rattle.std.specs.Vec.Iter.{into_iter_items}
 use Rattle.sqlite.specs.{Held.state, declared.error.Error.TheVariants.SqliteFailure, declared.error.ErrorCode.TheVariants.OutOfMemory}
 use Rattle.sql_schema.proofs.StaysLemmas.{asks_then}
@@ -26,22 +25,6 @@ loop-head-preserved g c =
           (λ whole own head. (after.looks is_open).found clean T has book whole (own, head)) c.in_ok-push.ensures.items);
     }
 
-pub returns-clause-looks : goal.returns-clause-looks
-returns-clause-looks g c is_open =
-    let last = c.loop-head.invariant in
-    let none = nil_from_length c.loop-head.head-iterator.rest.items
-    (omega (arith, c.loop-head.head-iterator.rest.ok, c.in-None.ensures.steps.0)) in
-    let all = sym (append-nil c.loop-head.yielded) ∙ ap (λ l. c.loop-head.yielded ++ l) (sym none) ∙ sym last.whole in
-    record {
-      found = λ clean T has book rows own. last.filled.found clean T has book is_open rows own.0 (all ∙ own.1);
-      caused = λ clean T has book may rows own. tt;
-      unchanged = λ clean. last.filled.unchanged clean is_open;
-      asks = last.filled.asks;
-    }
-
-pub returns-clause-asks : goal.returns-clause-asks
-returns-clause-asks g c = c.loop-head.invariant.filled.asks
-
 pub returns-in_err-whole-clause-looks : goal.returns-in_err-whole-clause-looks
 returns-in_err-whole-clause-looks g c is_open =
     let loop = c.loop-head.invariant in
@@ -58,6 +41,3 @@ returns-in_err-push-clause-looks g c is_open =
     stopped c.from_residual-in_err-push.ensures.0 (λ clean T has book may rows own.
     all_of_memory r (state g.S.Store c.args.conn.now) (state g.S.Store c.complete.new.conn) (failed_as r (Engine (SqliteFailure OutOfMemory)) IsOfMemory refl c.from_residual-in_err-push.ensures.1))
     (asks_then _ _ _ c.loop-head.invariant.filled.asks c.in_ok-whole.ensures.asks)
-
-pub returns-in_err-whole-clause-asks : goal.returns-in_err-whole-clause-asks
-returns-in_err-whole-clause-asks g c = asks_then _ _ _ c.loop-head.invariant.filled.asks c.in_err-whole.ensures.asks

@@ -1,18 +1,11 @@
 use Rattle.std.proofs.Common.{◌++◌, [], ◌∷◌, ◌∙◌, ap, map, subst, sym, take}
-use Rattle.std.proofs.lemmas.List.{map-append, take_all, take_more}
+use Rattle.std.proofs.lemmas.List.{map-append, take_more}
 use Rattle.model_laws.proofs.Basics.{each-append}
 use Rattle.store_book.proofs.SliceLoops.{one-more}
 use Rattle.desk_model.specs.Kept.{EachOf}
 use Rattle.sql_read.specs.LookUpFaults.{AreTableRows, IsOfMemory}
 use Rattle.sql_read.proofs.{LookUpFaults.table_first, Results.failed_as}
 use Rattle.sql_read.proofs.rows.rows_of.Goals as goal
-
-pub loop-row-init : goal.loop-row-init
-loop-row-init g c = record {
-  stored = subst (EachOf g.C.Columns.IsStored) (sym c.new-all.ensures.items) tt;
-  columns = ap (map g.C.Columns.write) (sym c.new-all.ensures.items);
-  left = λ are. are;
-}
 
 pub loop-row-preserved : goal.loop-row-preserved
 loop-row-preserved g c =
@@ -35,11 +28,6 @@ loop-row-preserved g c =
           (table_first g.C.Selected.spelled g.C.Selected.Fits g.C.Columns.write g.C.Columns.IsStored _ _
           (subst AreRows (one-more rows index c.row-item.result c.loop-row-test.true) (before.left are))).1;
     }
-
-pub returns-clause-rows : goal.returns-clause-rows
-returns-clause-rows g c =
-    let last = c.loop-row.invariant in
-    (last.stored, ap (map g.C.Selected.spelled) (sym (take_all c.loop-row.row-index c.args.rows.now c.loop-row-test.false)) ∙ last.columns)
 
 pub returns-in_err-found-clause-fault : goal.returns-in_err-found-clause-fault
 returns-in_err-found-clause-fault g c are =

@@ -1,9 +1,8 @@
-use Rattle.std.proofs.{Common.ap, Common.subst, Common.sym, Common.◌∙◌, lemmas.Result.IfOk-weaker}
+use Rattle.std.proofs.{Common.ap, Common.◌∙◌, lemmas.Result.IfOk-weaker}
 use Rattle.model_laws.proofs.Basics.{each_all}
-use Rattle.sql_read.specs.{Joined.gathered, Looking.Finds, Spelled.FitsJoined, Spelled.joined_in}
-use Rattle.sql_read.proofs.BesideFound.{beside_find, beside_parts, beside_rows, owner_is}
+use Rattle.sql_read.specs.Joined.{gathered}
 use Rattle.sql_read.proofs.Looking.{finds_as, looked_failed, looked_made, query_as}
-use Rattle.sql_read.proofs.{JoinParts.IsStoredJoined, JoinParts.joined_columns, LookUpReadings.beside_reading}
+use Rattle.sql_read.proofs.{BesideFound.beside_find, BesideFound.beside_rows, BesideFound.owner_is, LookUpReadings.beside_reading}
 use Rattle.sql_read.proofs.waiting.authorizations_with_challenge.Goals as goal
 
 pub find_wholes-requires : goal.find_wholes-requires
@@ -14,9 +13,7 @@ returns g c =
     let n = c.args.number in
     looked_made (λ T. beside_rows T n) (λ T has book. (
       each_all _ (beside_rows T n) (λ _. tt),
-      finds_as c.number-query.ensures
-          (subst (Finds g.S.Store joined_in FitsJoined joined_columns IsStoredJoined _ c.args.conn.now)
-          (sym (beside_parts g.S.Store c.args.conn.now T has book n)) (beside_find g.S.Store c.args.conn.now T has book n)),
+      finds_as c.number-query.ensures (beside_find g.S.Store c.args.conn.now T has book n),
     ))
     c.in_ok-rows.ensures (λ T has book found. (
       IfOk-weaker c.gathered.result _ _ (λ _ are. are ∙ ap gathered (c.as_slice.ensures.value ∙ found)
@@ -29,8 +26,6 @@ returns-in_err-rows g c =
     let n = c.args.number in
     looked_failed (λ T. beside_rows T n) (λ T has book. (
       each_all _ (beside_rows T n) (λ _. tt),
-      finds_as c.number-query.ensures
-          (subst (Finds g.S.Store joined_in FitsJoined joined_columns IsStoredJoined _ c.args.conn.now)
-          (sym (beside_parts g.S.Store c.args.conn.now T has book n)) (beside_find g.S.Store c.args.conn.now T has book n)),
+      finds_as c.number-query.ensures (beside_find g.S.Store c.args.conn.now T has book n),
     ))
     c.in_err-rows.ensures c.from_residual.ensures.1

@@ -3,9 +3,8 @@ use Rattle.desk_model.specs.Kept.{EachOf}
 use Rattle.model_laws.proofs.Basics.{each_all}
 use Rattle.model_lives.specs.LookUps.{AreWaiting, bare_authorizations}
 use Rattle.sql_schema.specs.declared.challenges.TheConstants as chall
-use Rattle.sql_read.specs.{Spelled.FitsJoined, Spelled.joined_in, Looking.Finds}
-use Rattle.sql_read.proofs.{JoinFound.are_found, JoinFound.joined_find, JoinFound.parts_are, JoinFound.waiting_rows, JoinParts.IsStoredJoined}
-use Rattle.sql_read.proofs.{JoinParts.joined_columns, LookUpReadings.joined_reading, LookUpReadings.text, Looking.finds_as, Looking.looked, Looking.query_as}
+use Rattle.sql_read.proofs.{JoinFound.are_found, JoinFound.joined_find, JoinFound.waiting_rows, LookUpReadings.joined_reading, LookUpReadings.text}
+use Rattle.sql_read.proofs.Looking.{finds_as, looked, query_as}
 use Rattle.sql_read.proofs.waiting.waiting_challenges.Goals as goal
 
 pub find_wholes-requires : goal.find_wholes-requires
@@ -16,8 +15,7 @@ returns g c =
     looked waiting_rows (λ T has book. (
       each_all _ (waiting_rows T) (λ w. tt),
       finds_as (c.text-query.ensures ∙ ap (λ t. (chall.SELECT_JOINED.now, text t)) c.as_str-waiting.ensures)
-          (subst (Finds g.S.Store joined_in FitsJoined joined_columns IsStoredJoined _ c.args.conn.now) (sym (parts_are g.S.Store c.args.conn.now T has))
-          (joined_find g.S.Store c.args.conn.now T has book)),
+          (joined_find g.S.Store c.args.conn.now T has book),
     ))
     (λ T has book rows are.
     subst

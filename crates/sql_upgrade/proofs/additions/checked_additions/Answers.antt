@@ -3,7 +3,7 @@ use Rattle.std.specs.Prelude.{IsSome}
 use Rattle.sqlite.specs.Held.{state}
 use Rattle.sql_upgrade.specs.{Checked.AreChecked, FoundKeys.HasKeys, FoundKeys.LacksThumbs, FoundKeys.ShowsThumbs}
 use Rattle.sql_upgrade.proofs.{FoundKeysAre.found_keys_are, KeysThere.no_keys}
-use Rattle.sql_read.proofs.FirstChecked.{reads_err, reads_ok, tables_then}
+use Rattle.sql_read.proofs.FirstChecked.{reads_ok, tables_then}
 use Rattle.sql_upgrade.proofs.additions.checked_additions.Goals as goal
 
 pub returns-in-Ok-Some : goal.returns-in-Ok-Some
@@ -34,8 +34,3 @@ returns-in-Ok-Some g c =
 pub returns-in-Ok-None : goal.returns-in-Ok-None
 returns-in-Ok-None g c =
     reads_ok g.S.Store (λ clean. c.in-Ok-None.ensures.none clean c.in-Ok-None.field-0-is) c.in-Ok-None.ensures.unchanged c.in-Ok-None.ensures.asks
-
-pub returns-in-Err : goal.returns-in-Err
-returns-in-Err g c =
-    let meta = c.in-Err.ensures in
-    reads_err g.S.Store (λ clean may is. meta.fails clean is.tables is.holds may is.texts) meta.refused meta.met meta.asks

@@ -3,19 +3,12 @@ use Rattle.store_columns.specs.Columns.{challenge_columns}
 use Rattle.store_columns.proofs.RowsApart.{authorizations-apart}
 use Rattle.desk_model.specs.Kept.{EachOf}
 use Rattle.sql_read.specs.{Checking.ShowsOnly, Spelled.FitsChallenge, Spelled.challenge_in}
-use Rattle.sql_read.proofs.{Streaming.shown_same, FirstTables.authorizations_selected, FirstTables.first_authorizations, FirstChecked.reads_ok}
-use Rattle.sql_read.proofs.{FirstChecked.tables_then}
+use Rattle.sql_read.proofs.{Streaming.shown_same, FirstTables.first_authorizations, FirstChecked.tables_then}
 use Rattle.sql_schema.specs.declared.challenges.TheConstants as chall
 use Rattle.sqlite.specs.Held.{state}
 use Rattle.sql_upgrade.specs.FoundKeys.{HasKey, ShowsAnswers, ShowsOwners, account_rows}
 use Rattle.sql_upgrade.proofs.KeyReadings.{table_failed}
 use Rattle.sql_upgrade.proofs.answer_keys.keys_of_authorizations.Goals as goal
-
-pub check_table-requires-clause-query : goal.check_table-requires-clause-query
-check_table-requires-clause-query g c = authorizations_selected
-
-pub check_table-requires-clause-apart : goal.check_table-requires-clause-apart
-check_table-requires-clause-apart g c = authorizations-apart
 
 pub returns-in-Ok-Some : goal.returns-in-Ok-Some
 returns-in-Ok-Some g c =
@@ -39,11 +32,6 @@ returns-in-Ok-Some g c =
     (subst (λ db. ShowsOnly g.S.Store chall.SELECT.now challenge_in challenge_columns FitsChallenge db rows.challenges) (sym still) only.challenges)
     (subst (λ os. EachOf (HasKey os c.args.thumbs.now) rows.challenges) (sym are) have))
     c.in-Ok-Some.ensures.unchanged c.in-Ok-Some.ensures.asks c.keys_of_challenges.ensures
-
-pub returns-in-Ok-None : goal.returns-in-Ok-None
-returns-in-Ok-None g c = reads_ok g.S.Store
-    (λ clean rows stored only have. c.in-Ok-None.ensures.none clean c.in-Ok-None.field-0-is rows.authorizations stored.authorizations only.authorizations tt)
-    c.in-Ok-None.ensures.unchanged c.in-Ok-None.ensures.asks
 
 pub returns-in-Err : goal.returns-in-Err
 returns-in-Err g c =

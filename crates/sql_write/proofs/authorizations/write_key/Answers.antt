@@ -1,14 +1,7 @@
 use Rattle.std.proofs.Common.{rules}
-use Rattle.sql_write.proofs.RowWrites.{key_texts, row_unwritten, row_written}
+use Rattle.sql_write.proofs.RowWrites.{key_texts, row_written}
 use Rattle.sql_write.proofs.authorizations.write_key.Goals as goal
 
 pub returns-clause-writes : goal.returns-clause-writes
 returns-clause-writes g c =
-    row_written g.S.Store key_texts c.args.row.now _ _ c.write_row.result c.args.write _ _
-    (search rules) (search rules) c.write_row.ensures.ran
-
-pub returns-in_err-challenge-clause-writes : goal.returns-in_err-challenge-clause-writes
-returns-in_err-challenge-clause-writes g c =
-    let none = row_unwritten g.S.Store key_texts c.args.row.now c.args.write
-    c.args.tx.now.conn.now c.in_err-challenge.field-0.0 in
-    search (rules, none)
+    row_written g.S.Store key_texts c.args.row.now c.args.write (search rules) (search rules) c.write_row.ensures.ran

@@ -1,6 +1,6 @@
-use Rattle.std.proofs.Common.{◌∙◌, Ok, subst, sym}
+use Rattle.std.proofs.Common.{◌∙◌, subst, sym}
 use Rattle.std.specs.Prelude.{option_copied, option_to_list}
-use Rattle.sql_write.proofs.{KeyRows.key_of_answer, Over.over_none, Over.over_one, Written.nothing_written, Written.written_as}
+use Rattle.sql_write.proofs.{Over.over_one, Written.written_as}
 use Rattle.sql_write.specs.{Makes.PutsAllOver, Makes.key_under, Refusals.HasWritten, Statements.of_some, Statements.saves_key}
 use Rattle.sql_write.proofs.children.save_answer.Goals as goal
 use Rattle.sql_tables.specs.Layouts.{key_layout}
@@ -12,15 +12,3 @@ returns-in-Some-clause-writes g c =
     subst (λ o. HasWritten g.S.Store (of_some (saves_key stored c.args.last) o) (PutsAllOver key_layout (key_under stored) (option_to_list o))
     c.args.tx.now.conn.now c.save_key.new.tx.conn.now c.save_key.result) (sym is)
     (written_as g.S.Store _ _ _ _ _ _ (over_one key_layout (key_under stored) c.in-Some.key _ _) c.save_key.ensures.writes)
-
-pub returns-in-None-clause-writes : goal.returns-in-None-clause-writes
-returns-in-None-clause-writes g c =
-    let stored = option_copied c.args.stored in
-    let is = sym c.answer_key.ensures ∙ c.in-None.is in
-    subst (λ o. HasWritten g.S.Store (of_some (saves_key stored c.args.last) o) (PutsAllOver key_layout (key_under stored) (option_to_list o))
-    c.args.tx.now.conn.now c.args.tx.now.conn.now (Ok tt)) (sym is)
-    (nothing_written g.S.Store _ c.args.tx.now.conn.now tt (over_none key_layout (key_under stored) _))
-
-pub returns-in-Some-clause-fits : goal.returns-in-Some-clause-fits
-returns-in-Some-clause-fits g c owner fits = c.save_key.ensures.fits (key_of_answer owner c.args.row.now c.in-Some.key
-    (sym c.answer_key.ensures ∙ c.in-Some.is) fits)

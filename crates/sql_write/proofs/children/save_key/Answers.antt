@@ -14,8 +14,7 @@ returns-in-Some-clause-writes g c =
     set_some g.S.Store (key_differs key (key_under stored key)) new (λ m. writes key_writing m key) refl
     (c.of.ensures ∙ ap (write c.key_difference-difference.result)
     (c.lacks_key-is_new.ensures ∙ ap (λ o. lacks_key o c.args.last key.challenge) c.stored_challenge.ensures))
-    (c.key_difference-difference.ensures ∙ ap (option_map (λ old. key_difference old key)) c.stored_key.ensures) _ _ c.write_key.result
-    c.in-Some.write c.in-Some.is
+    (c.key_difference-difference.ensures ∙ ap (option_map (λ old. key_difference old key)) c.stored_key.ensures) c.in-Some.is
     (written_as g.S.Store _ _ _ _ _ _ (writes_added key_layout key c.in-Some.write _ _) c.write_key.ensures.writes)
 
 pub returns-in-None-clause-writes : goal.returns-in-None-clause-writes
@@ -26,4 +25,4 @@ returns-in-None-clause-writes g c =
     set_none g.S.Store (key_differs key (key_under stored key)) new (λ m. writes key_writing m key) refl
     (c.of.ensures ∙ ap (write c.key_difference-difference.result)
     (c.lacks_key-is_new.ensures ∙ ap (λ o. lacks_key o c.args.last key.challenge) c.stored_challenge.ensures))
-    (c.key_difference-difference.ensures ∙ ap (option_map (λ old. key_difference old key)) c.stored_key.ensures) _ _ c.in-None.is
+    (c.key_difference-difference.ensures ∙ ap (option_map (λ old. key_difference old key)) c.stored_key.ensures) c.in-None.is

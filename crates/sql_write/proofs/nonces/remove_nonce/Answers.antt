@@ -1,6 +1,5 @@
 use Rattle.std.proofs.Common.{rules}
-use Rattle.sql_write.proofs.Written.{none_written, run_written}
-use Rattle.sql_write.specs.Statements.{removes_nonce}
+use Rattle.sql_write.proofs.Written.{run_written}
 use Rattle.sql_write.proofs.nonces.remove_nonce.Goals as goal
 use Rattle.sql_tables.specs.{Effects.Removes, Layouts.nonce_layout}
 use Rattle.sql_tables.proofs.Removal.{advances_removal}
@@ -9,9 +8,3 @@ pub returns-clause-writes : goal.returns-clause-writes
 returns-clause-writes g c =
     run_written g.S.Store _ _ _ (Removes nonce_layout c.args.serial) _ _ c.execute_or_fault.result (search rules) c.execute_or_fault.ensures.ran
     (advances_removal c.args.serial _ _ _ (search rules))
-
-pub returns-in_err-column-clause-writes : goal.returns-in_err-column-clause-writes
-returns-in_err-column-clause-writes g c =
-    let none = none_written g.S.Store {X = Unit {0}} (removes_nonce c.args.serial) (Removes nonce_layout c.args.serial) c.args.tx.now.conn.now
-    c.in_err-column.field-0.0 in
-    search (rules, none)

@@ -1,20 +1,6 @@
-use Rattle.std.proofs.Common.{rules}
-use Rattle.sql_write.proofs.RowWrites.{order_texts, row_unwritten, row_written}
+use Rattle.sql_write.proofs.RowWrites.{order_texts, row_written}
 use Rattle.sql_write.proofs.orders.write_bare_order.Goals as goal
 
 pub returns-clause-writes : goal.returns-clause-writes
 returns-clause-writes g c =
-    row_written g.S.Store order_texts c.args.row.now _ _ c.write_row-written.result c.args.write _ _
-    c.order_values.ensures.all c.order_values.ensures.updates c.write_row-written.ensures.ran
-
-pub returns-in_err-problem-clause-writes : goal.returns-in_err-problem-clause-writes
-returns-in_err-problem-clause-writes g c =
-    let none = row_unwritten g.S.Store order_texts c.args.row.now c.args.write
-    c.args.tx.now.conn.now c.in_err-problem.field-0.0 in
-    search (rules, none)
-
-pub returns-in_err-numbers-clause-writes : goal.returns-in_err-numbers-clause-writes
-returns-in_err-numbers-clause-writes g c =
-    let none = row_unwritten g.S.Store order_texts c.args.row.now c.args.write
-    c.args.tx.now.conn.now c.in_err-numbers.field-0.0 in
-    search (rules, none)
+    row_written g.S.Store order_texts c.args.row.now c.args.write c.order_values.ensures.all c.order_values.ensures.updates c.write_row-written.ensures.ran

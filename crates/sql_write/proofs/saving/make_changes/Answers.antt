@@ -1,9 +1,8 @@
-use Rattle.std.proofs.Common.{◌∙◌, ◌+◌, Err, Ok, arith, rules, subst, sym, take, take_all}
+use Rattle.std.proofs.Common.{◌∙◌, ◌+◌, Err, Ok, arith, rules, subst, sym, take}
 use Rattle.desk_model.specs.{Change.applied, declared.rows.Change.Change}
-use Rattle.sql_write.proofs.RowsInTurn.{each_at, from_begins, from_more, made_more}
+use Rattle.sql_write.proofs.RowsInTurn.{from_begins, from_more, made_more}
 use Rattle.sql_write.proofs.{StoredRows.take_more, Written.written_then, Written.written_through, Written.written_with}
-use Rattle.sql_write.specs.{Highest.IsAbove, Numbers.FitsColumns, Refusals.HasWritten, Makes.Makes, Makes.MakesAll, Statements.statements_from}
-use Rattle.sql_write.specs.{Statements.statements_of}
+use Rattle.sql_write.specs.{Highest.IsAbove, Refusals.HasWritten, Makes.Makes, Makes.MakesAll, Statements.statements_of}
 use Rattle.sql_write.proofs.saving.make_changes.Goals as goal
 
 pub loop-place-preserved : goal.loop-place-preserved
@@ -40,16 +39,3 @@ returns-in_err-make_change-clause-writes g c =
     let stops = written_through g.S.Store {Z = Unit {0}} _ _ _ _ (from_begins last changes place _ part (omega arith)) (MakesAll part (take place changes)) _
     (MakesAll part changes) _ _ _ tt _ c.loop-place.invariant.writes here in
     search (rules, stops)
-
-pub returns-clause-writes : goal.returns-clause-writes
-returns-clause-writes g c =
-    let whole = take_all c.loop-place.place c.args.changes.now (omega arith) in
-    let part = c.args.part.now in
-    subst (λ cs. HasWritten g.S.Store {X = Unit {0}} (statements_from c.args.last.now part cs) (MakesAll part cs) c.args.tx.now.conn.now
-    c.loop-place.tx.conn.now (Ok tt)) whole c.loop-place.invariant.writes
-
-pub returns-in_err-make_change-clause-fits : goal.returns-in_err-make_change-clause-fits
-returns-in_err-make_change-clause-fits g c all =
-    let at = each_at FitsColumns c.args.changes.now c.loop-place.place _ (omega arith) all in
-    let fits = c.in_err-make_change.ensures.fits (subst FitsColumns (sym c.index-changes-place.is) at) in
-    search (rules, fits)

@@ -13,10 +13,9 @@ returns-in-Some-clause-writes g c =
     let stored = option_copied c.args.stored in
     set_some g.S.Store (meta_differs row stored) false (λ m. writes meta_writing m (known_format, row))
     (differs_beside known_format (λ old. meta_difference old row) stored)
-    c.of.ensures c.meta_difference.ensures _ _ c.write_meta.result c.in-Some.write c.in-Some.is
+    c.of.ensures c.meta_difference.ensures c.in-Some.is
     (written_as g.S.Store _ _ _ _ _ _ (writes_renewed formatted_layout _ (known_format, row) c.in-Some.write _ _
-    (not_inserted _ c.in-Some.write (sym c.of.ensures ∙ c.in-Some.is)))
-    c.write_meta.ensures.writes)
+    (not_inserted _ c.in-Some.write (sym c.of.ensures ∙ c.in-Some.is))) c.write_meta.ensures.writes)
 
 pub returns-in-None-clause-writes : goal.returns-in-None-clause-writes
 returns-in-None-clause-writes g c =
@@ -24,4 +23,4 @@ returns-in-None-clause-writes g c =
     let stored = option_copied c.args.stored in
     set_none g.S.Store (meta_differs row stored) false (λ m. writes meta_writing m (known_format, row))
     (differs_beside known_format (λ old. meta_difference old row) stored)
-    c.of.ensures c.meta_difference.ensures _ tt c.in-None.is
+    c.of.ensures c.meta_difference.ensures c.in-None.is

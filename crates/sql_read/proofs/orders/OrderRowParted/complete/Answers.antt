@@ -1,22 +1,8 @@
-use Rattle.std.proofs.{Common.map, Common.filter, Common.ap, Common.◌==◌, Common.◌∙◌, lemmas.Result.IfOk-from_err}
+use Rattle.std.proofs.{Common.filter, Common.◌==◌, lemmas.Result.IfOk-from_err}
 use Rattle.store_columns.specs.Flat.{listed_rows}
-use Rattle.desk_model.specs.declared.rows.OrderRow.{OrderRow}
-use Rattle.sql_read.specs.{LookUpFaults.IsOfMemory, Under.rows_under}
-use Rattle.sql_read.proofs.{ListedOrder.listed_by_find, LookUpReadings.listed_by_reading, Results.failed_as}
-use Rattle.sql_read.proofs.Looking.{finds_as, query_as, step_failed, step_made}
+use Rattle.sql_read.specs.LookUpFaults.{IsOfMemory}
+use Rattle.sql_read.proofs.{ListedOrder.listed_by_find, Results.failed_as, Looking.finds_as, Looking.step_failed, Looking.step_made}
 use Rattle.sql_read.proofs.orders.OrderRowParted.complete.Goals as goal
-
-pub find_rows-requires : goal.find_rows-requires
-find_rows-requires g c = query_as c.number-query.ensures (listed_by_reading c.args.self.number).selecting
-
-pub returns-clause-looks : goal.returns-clause-looks
-returns-clause-looks g c is_open =
-    step_made (λ T whole. filter (λ l. l.owner == c.args.self.number) (listed_rows T.orders))
-    (λ T has book whole all. finds_as c.number-query.ensures (listed_by_find g.S.Store c.args.conn.now T has book c.args.self.number))
-    c.in_ok-rows.ensures (λ T whole all found.
-    let listed = c.new-listed.ensures ∙ c.in_ok-without_owners.ensures.rows ∙ ap (map (λ r. r.row)) found
-    ∙ ap (λ (o : OrderRow). rows_under o.number (listed_rows T.orders)) all.1 ∙ all.0 in
-    ((λ i. record (all.1 i) { listed = listed i }), tt))
 
 pub returns-in_err-rows-clause-looks : goal.returns-in_err-rows-clause-looks
 returns-in_err-rows-clause-looks g c is_open =

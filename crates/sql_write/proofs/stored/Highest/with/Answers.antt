@@ -2,7 +2,7 @@ use Rattle.std.proofs.Common.{◌++◌, ◌∷◌, [], arith, refl, rules, subst
 use Rattle.desk_model.specs.declared.rows.{AccountRow.AccountRow, AuthorizationRow.AuthorizationRow, OrderRow.OrderRow}
 use Rattle.desk_model.specs.declared.rows.Change.TheVariants.{PutAccount, PutAuthorization, PutOrder}
 use Rattle.sql_write.specs.{Highest.IsAbove, declared.stored.Highest.Highest}
-use Rattle.sql_write.proofs.StoredRows.{above_more, leaves, put_below}
+use Rattle.sql_write.proofs.StoredRows.{above_more, put_below}
 use Rattle.sql_write.proofs.stored.Highest.with.Goals as goal
 
 pub returns-in-PutAccount : goal.returns-in-PutAccount
@@ -34,12 +34,3 @@ returns-in-PutOrder c before =
     (λ T n high. refl)
     (λ T n high. refl)
     (λ T n high. put_below (λ (r : OrderRow). r.number) row new.orders (search rules) T.orders n high))
-
-pub returns-in_default : goal.returns-in_default
-returns-in_default c before =
-    let highest = c.args.self in
-    let change = c.args.change.now in
-    above_more highest highest before change (omega arith) (omega arith) (omega arith)
-    (λ T n high. (leaves change T n).account c.in_default.not-PutAccount)
-    (λ T n high. (leaves change T n).authorization c.in_default.not-PutAuthorization)
-    (λ T n high. (leaves change T n).order c.in_default.not-PutOrder)
