@@ -1,7 +1,7 @@
 -- The exits of a call over an open store.
-use Rattle.std.proofs.Common.{◌≡◌, ℕ, ◌<◌, List, [], ◌∷◌, Option, Some, refl, sym, subst, Result, Ok, Err, inl, inr, arith, true, false, rules}
-use Rattle.std.proofs.{lemmas.Bool.eqb-true}
-use Rattle.std.specs.Prelude.{nat_eq, length, ◌↔◌, IfErr, IsErrAnd}
+use Rattle.std.proofs.Common.{◌≡◌, ℕ, ◌<◌, List, [], ◌∷◌, Some, refl, sym, subst, Result, Ok, Err, inl, inr, arith, true, false, rules}
+use Rattle.std.proofs.lemmas.Bool.{eqb-true}
+use Rattle.std.specs.Prelude.{nat_eq, length, ◌↔◌, IsErrAnd}
 use Rattle.desk_model.specs.{Entry.History, Change.applied, Limits.last_moment, Decide.after, Legal.Legal, Run.IsFormedCall, Run.fault, Tables.Tables}
 use Rattle.desk_model.specs.{Tables.picture, declared.call.Call.Call, declared.reply.Reply.Reply, declared.rows.Change.Change}
 use Rattle.model_lives.specs.IsEnough.{IsEnoughFor}
@@ -12,12 +12,12 @@ use Rattle.core_rules.specs.declared.fault.CoreFault.TheVariants as core
 use Rattle.identifiers.specs.declared.parsed.CallFault.{CallFault}
 use Rattle.identifiers.specs.declared.parsed.CallFault.TheVariants as callfault
 use Rattle.store_api.proofs.Readings.{unchanged_both, unchanged_here, unchanged_read}
-use Rattle.store_api.specs.Storing.{Causes, Fit, IsCutFrom, Loads, Saving, SavesFrom}
+use Rattle.store_api.specs.Storing.{Fit, IsCutFrom, Loads, SavesFrom}
 use Rattle.store_api.specs.{Sight.Sight, Sight.Keeps, Sight.Unchanged, declared.fault.StorageFault.StorageFault}
 use Rattle.store_api.specs.declared.fault.StorageFault.TheVariants as storagefault
 use Rattle.desk.proofs.Running.{declines}
 use Rattle.desk.specs.Answers.{Answers, ExitsBy, IsAnswered, IsBroken, is_closed_after}
-use Rattle.desk.specs.{Causes.IsCaused, declared.fault.DeskFault.DeskFault, Faults.call_fault, Faults.closes, Faults.core_fault, Faults.storage_fault}
+use Rattle.desk.specs.{declared.fault.DeskFault.DeskFault, Faults.call_fault, Faults.closes, Faults.core_fault, Faults.storage_fault}
 use Rattle.desk.specs.declared.fault.DeskFault.TheVariants as deskfault
 
 -- ---- faults
@@ -86,16 +86,14 @@ module _ {S C : Type 0} (v : Sight S C) where
   unwritten : (R : Type 0) (old new : S) (part : Tables) (changes : List Change) (cause : StorageFault) → SavesFrom v part changes old new (failed R cause) →
       closes (storage_fault cause) ≡ false → Unchanged v old new
   unwritten R old new part changes storagefault.Memory s going = s.without_memory refl
-  unwritten R old new part changes storagefault.Device s going = absurd (cc going)
-  unwritten R old new part changes storagefault.Reopen s going = absurd (cc going)
+  unwritten R old new part changes cause s going = absurd (cc going)
 
   -- ---- exits, by a history
 
   -- the call is declined
   is_declined : (F : History) (call : Call) (new : S) (e : CoreFault) → IsFaultOf F call e → Keeps v new (picture F) → ExitsBy v F call (core_fault e) new
   is_declined F call new core.Memory is keeps = record { cause = tt; keeps = keeps }
-  is_declined F call new core.ShortRandom is keeps = record { cause = is; keeps = keeps }
-  is_declined F call new core.Full is keeps = record { cause = is; keeps = keeps }
+  is_declined F call new e is keeps = record { cause = is; keeps = keeps }
 
   -- the store keeps the tables with the changes
   answers : (F : History) (call : Call) (new : S) (changes : List Change) (reply : Reply) → IsDecision F call changes reply →
@@ -120,10 +118,7 @@ module _ {S C : Type 0} (v : Sight S C) where
       ExitsBy v F call (storage_fault cause) new
   save_fails R F call old new part changes reply storagefault.Memory h cut d keeps s =
       record { cause = tt; keeps = keeps_on old new (picture F) h (unwritten R old new part changes storagefault.Memory s refl) keeps }
-  save_fails R F call old new part changes reply storagefault.Device h cut d keeps s =
-      either F call old new part changes reply (failed R storagefault.Device) h cut d keeps s
-  save_fails R F call old new part changes reply storagefault.Reopen h cut d keeps s =
-      either F call old new part changes reply (failed R storagefault.Reopen) h cut d keeps s
+  save_fails R F call old new part changes reply cause h cut d keeps s = either F call old new part changes reply (failed R cause) h cut d keeps s
 
   -- ---- the exits of the whole call
 
@@ -215,35 +210,3 @@ module _ {S C : Type 0} (v : Sight S C) where
             (save_fails R F call mid new book changes reply cause h (enough.kept, enough.cut) (decides F legal enough)
             (keeps_on old mid (picture F) (s.honest h) (unchanged_read l.reads) keeps) s);
       }
-
-  -- ---- what faults come from
-
-  module _ (causes : Causes S) where
-    -- a fault of a decision comes of no store
-    pub core_caused : (old new : S) (e : CoreFault) → IsCaused v causes old new (core_fault e)
-    core_caused old new core.Memory = tt
-    core_caused old new core.ShortRandom = tt
-    core_caused old new core.Full = tt
-
-    -- so it is with a call that was not read
-    pub call_caused : (old new : S) (e : CallFault) → IsCaused v causes old new (call_fault e)
-    call_caused old new callfault.Memory = tt
-    call_caused old new callfault.Moment = tt
-
-    -- a fault of the store comes of it
-    storage_caused : (old mid new : S) (saving : Option Saving) (cause : StorageFault) → Unchanged v old mid → causes saving mid new cause
-        → IsCaused v causes old new (storage_fault cause)
-    storage_caused old mid new saving storagefault.Memory unchanged is = tt
-    storage_caused old mid new saving storagefault.Device unchanged is = record { from = mid; unchanged = unchanged; saving = saving; cause = is }
-    storage_caused old mid new saving storagefault.Reopen unchanged is = record { from = mid; unchanged = unchanged; saving = saving; cause = is }
-
-    -- and so of results
-    pub result_caused : (old new : S) (why : DeskFault) (result : Result Reply DeskFault) → IsCaused v causes old new why → Faults result why →
-        IfErr result (IsCaused v causes old new)
-    result_caused old new why (Ok reply) caused is = absurd is
-    result_caused old new why (Err e) caused is = subst (IsCaused v causes old new) (sym is) caused
-
-    pub storage_result_caused : (old mid new : S) (saving : Option Saving) (cause : StorageFault) (result : Result Reply DeskFault)
-        → Unchanged v old mid → causes saving mid new cause → Faults result (storage_fault cause) → IfErr result (IsCaused v causes old new)
-    storage_result_caused old mid new saving cause result unchanged caused is =
-        result_caused old new (storage_fault cause) result (storage_caused old mid new saving cause unchanged caused) is

@@ -51,16 +51,9 @@ module _ {S C : Type 0} (v : Sight S C) where
   faults : (start : History) (old : S) (P : List Event → Type 0) (call : Call) (why : DeskFault) (new : S) → IsLiving start (runs old) P →
       IsExitInPlace v call old new (Err why) → IsLiving start (runs new)
       (λ life. IsAt v (history start life) (runs new) × ((before : List Event) × (life ≡ Faulted call ∷ before) × P before))
-  faults start old P call deskfault.Memory new h is = goes_on start old P call new h (exit_of start old P h call new (Err deskfault.Memory) is.exits).keeps
-  faults start old P call deskfault.Moment new h is = goes_on start old P call new h (exit_of start old P h call new (Err deskfault.Moment) is.exits).keeps
-  faults start old P call deskfault.ShortRandom new h is =
-      goes_on start old P call new h (exit_of start old P h call new (Err deskfault.ShortRandom) is.exits).keeps
-  faults start old P call deskfault.Full new h is = goes_on start old P call new h (exit_of start old P h call new (Err deskfault.Full) is.exits).keeps
-  faults start old P call deskfault.NotADesk new h is = goes_on start old P call new h (exit_of start old P h call new (Err deskfault.NotADesk) is.exits).keeps
-  faults start old P call deskfault.NewerFormat new h is =
-      goes_on start old P call new h (exit_of start old P h call new (Err deskfault.NewerFormat) is.exits).keeps
   faults start old P call deskfault.Device new h is = absurd (cc is.opened)
   faults start old P call deskfault.Reopen new h is = absurd (cc is.opened)
+  faults start old P call why new h is = goes_on start old P call new h (exit_of start old P h call new (Err why) is.exits).keeps
 
   -- a stop leaves one of two
   either : (start : History) (old : S) (P : List Event → Type 0) (call : Call) (c : C) (h : IsLiving start (runs old) P) → IsFormedCall call →
@@ -80,14 +73,9 @@ module _ {S C : Type 0} (v : Sight S C) where
   -- what a stop leaves at an exit
   left_by : (F : History) (call : Call) (new : S) (exit : Result Reply DeskFault) (c : C) → Exits v F call exit new → v.leaves new c → IsEither v F call c
   left_by F call new (Ok reply) c e left = inr (e.faultless, e.keeps.left c left)
-  left_by F call new (Err deskfault.Memory) c e left = inl (e.keeps.left c left)
-  left_by F call new (Err deskfault.Moment) c e left = inl (e.keeps.left c left)
-  left_by F call new (Err deskfault.ShortRandom) c e left = inl (e.keeps.left c left)
-  left_by F call new (Err deskfault.Full) c e left = inl (e.keeps.left c left)
-  left_by F call new (Err deskfault.NotADesk) c e left = inl (e.keeps.left c left)
-  left_by F call new (Err deskfault.NewerFormat) c e left = inl (e.keeps.left c left)
   left_by F call new (Err deskfault.Device) c e left = e c left
   left_by F call new (Err deskfault.Reopen) c e left = e c left
+  left_by F call new exit c e left = inl (e.keeps.left c left)
 
   -- a stop
   stops : (start : History) (old : S) (P : List Event → Type 0) (call : Call) (exit : Result Reply DeskFault) (new : S) (c : C) →
@@ -112,8 +100,7 @@ module _ {S C : Type 0} (v : Sight S C) where
   on start old seen first (seen_stop call exit new c) h is = stops start old (Follows v start seen) call exit new c h is
   on start old seen first (seen_end c) h is =
       record { life = h.life; lives = h.lives; at = h.at.left c is; running = tt; says = (h.at.left c is, h.says) }
-  on start old seen first (seen_open new) h is = absurd is
-  on start old seen first (seen_failure c) h is = absurd is
+  on start old seen first x h is = absurd is
 
   -- the same where no desk runs
   off : (start : History) (old : C) (seen : List (Seen S C)) (first : Place S C) (x : Seen S C) → IsLiving start (rests old) (Follows v start seen) →
@@ -122,10 +109,7 @@ module _ {S C : Type 0} (v : Sight S C) where
   off start old seen first (seen_failure c) h is =
       let has = is (picture (history start h.life)) h.at in
       record { life = h.life; lives = h.lives; at = has; running = tt; says = (has, h.says) }
-  off start old seen first (seen_reply call reply new) h is = absurd is
-  off start old seen first (seen_fault call why new) h is = absurd is
-  off start old seen first (seen_stop call exit new c) h is = absurd is
-  off start old seen first (seen_end c) h is = absurd is
+  off start old seen first x h is = absurd is
 
   -- and wherever it is
   more : (start : History) (place : Place S C) (seen : List (Seen S C)) (first : Place S C) (x : Seen S C) →
@@ -151,9 +135,8 @@ module _ {S C : Type 0} (v : Sight S C) where
       ap replied f.1.1 ∙ ap (λ l. record { call = call; reply = reply } ∷ l) (told_of start seen f.1.0 f.1.2)
   told_of start (seen_fault call why new ∷ seen) life f = ap replied f.1.1 ∙ told_of start seen f.1.0 f.1.2
   told_of start (seen_stop call exit new c ∷ seen) life f = ap replied f.1.1.1 ∙ told_of start seen f.1.1.0 f.1.1.2
-  told_of start (seen_end c ∷ seen) life f = told_of start seen life f.1
   told_of start (seen_open new ∷ seen) life f = ap replied f.1.1 ∙ told_of start seen f.1.0 f.1.2
-  told_of start (seen_failure c ∷ seen) life f = told_of start seen life f.1
+  told_of start (x ∷ seen) life f = told_of start seen life f.1
 
   -- so it is a life
   pub seen_is_lived : SeenIsLived v
@@ -184,9 +167,8 @@ module _ {S C : Type 0} (v : Sight S C) where
       split_on start earlier life (Faulted call) f.1.0 f.1.1 (splits start later earlier f.1.0 f.1.2)
   splits start (seen_stop call exit new c ∷ later) earlier life f =
       split_on start earlier life (Stopped call f.1.0) f.1.1.0 f.1.1.1 (splits start later earlier f.1.1.0 f.1.1.2)
-  splits start (seen_end c ∷ later) earlier life f = splits start later earlier life f.1
   splits start (seen_open new ∷ later) earlier life f = split_on start earlier life Reopened f.1.0 f.1.1 (splits start later earlier f.1.0 f.1.2)
-  splits start (seen_failure c ∷ later) earlier life f = splits start later earlier life f.1
+  splits start (x ∷ later) earlier life f = splits start later earlier life f.1
 
   -- the calls that a life keeps are those that were answered and some of those that a stop cut off
   kept_of : (start : History) (seen : List (Seen S C)) (life : List Event) → Follows v start seen life → AreKeptOf seen (kept_calls life)
@@ -199,9 +181,8 @@ module _ {S C : Type 0} (v : Sight S C) where
           (kept_calls life)
       by true is rest = inr (kept_calls f.1.1.0, ap kept_calls is, rest)
       by false is rest = inl (subst (AreKeptOf seen) (sym (ap kept_calls is)) rest)
-  kept_of start (seen_end c ∷ seen) life f = kept_of start seen life f.1
   kept_of start (seen_open new ∷ seen) life f = subst (AreKeptOf seen) (sym (ap kept_calls f.1.1)) (kept_of start seen f.1.0 f.1.2)
-  kept_of start (seen_failure c ∷ seen) life f = kept_of start seen life f.1
+  kept_of start (x ∷ seen) life f = kept_of start seen life f.1
 
   -- what the end is made of
   pub seen_is_of_calls : SeenIsOfCalls v
@@ -252,11 +233,7 @@ module _ {S C : Type 0} (v : Sight S C) where
       IsAt v (history start life) (place_after first seen)
   at_of start first [] life at f = subst (λ l. IsAt v (history start l) first) (sym f) at
   at_of start first (seen_reply call reply new ∷ seen) life at f = f.0
-  at_of start first (seen_fault call why new ∷ seen) life at f = f.0
-  at_of start first (seen_stop call exit new c ∷ seen) life at f = f.0
-  at_of start first (seen_end c ∷ seen) life at f = f.0
-  at_of start first (seen_open new ∷ seen) life at f = f.0
-  at_of start first (seen_failure c ∷ seen) life at f = f.0
+  at_of start first (x ∷ seen) life at f = f.0
 
   -- two answered requests in one life
   once : (start : History) (first : Place S C) (middle earlier : List (Seen S C)) (one two : Call) (reply other : Reply) (new : S)

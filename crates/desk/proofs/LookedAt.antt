@@ -15,11 +15,9 @@ some_call = office_call 0 asks.Directory
 
 -- the fault by which a call would have left the desk so
 abbrev like : Result Unit LookFault → DeskFault
-like (Ok done) = deskfault.Memory
-like (Err lookfault.Output) = deskfault.Memory
-like (Err (lookfault.Storage storagefault.Memory)) = deskfault.Memory
 like (Err (lookfault.Storage storagefault.Device)) = deskfault.Device
 like (Err (lookfault.Storage storagefault.Reopen)) = deskfault.Reopen
+like x = deskfault.Memory
 
 module _ {S C : Type 0} (v : Sight S C) where
   -- what stands is as a call left it for which there was no memory
@@ -37,11 +35,9 @@ module _ {S C : Type 0} (v : Sight S C) where
   -- behind a look that did not close the desk the store stands
   stands_after : (old new : S) (result : Result Unit LookFault) → like result ≡ deskfault.Memory → Looks v old new result → Unchanged v old new
   stands_after old new (Ok done) opens looks = record { honest = looks.honest; left = looks.left; tables = looks.tables }
-  stands_after old new (Err lookfault.Output) opens looks = record { honest = looks.honest; left = looks.left; tables = looks.after_fault refl }
-  stands_after old new (Err (lookfault.Storage storagefault.Memory)) opens looks =
-      record { honest = looks.honest; left = looks.left; tables = looks.after_fault refl }
   stands_after old new (Err (lookfault.Storage storagefault.Device)) opens looks = absurd (cc opens)
   stands_after old new (Err (lookfault.Storage storagefault.Reopen)) opens looks = absurd (cc opens)
+  stands_after old new result opens looks = record { honest = looks.honest; left = looks.left; tables = looks.after_fault refl }
 
   -- one that closed it is as a call that did
   answers_like : (old new : DeskState S) (result : Result Unit LookFault) (Shows : Shown S) (was is : Option (List ℕ))
@@ -55,17 +51,7 @@ module _ {S C : Type 0} (v : Sight S C) where
         answers = declined old.store new.store (stands_after old.store new.store (Err (lookfault.Storage storagefault.Memory)) refl o.looks);
         flag = o.flag;
       }
-  answers_like old new (Err (lookfault.Storage storagefault.Device)) Shows was is o =
-      record {
-        answers = record {
-          formed = tt;
-          honest = o.looks.honest;
-          unchanged = λ opened. absurd (cc opened);
-          exit = λ h F legal keeps c may. inl (keeps.left c (o.looks.left h c may));
-        };
-        flag = o.flag;
-      }
-  answers_like old new (Err (lookfault.Storage storagefault.Reopen)) Shows was is o =
+  answers_like old new result Shows was is o =
       record {
         answers = record {
           formed = tt;

@@ -1,13 +1,12 @@
 -- Calls that are answered one after the other.
 use Rattle.std.proofs.Common.{◌≡◌, ℕ, ◌+◌, ◌<◌, ◌≤◌, List, [], ◌∷◌, ◌++◌, length, take, drop, get_or, subst, refl, sym, ◌∙◌, ap, add-one, inr, None, Some}
-use Rattle.std.proofs.Common.{Option, Result, Ok, Err, arith, rules}
+use Rattle.std.proofs.Common.{Option, Ok, Err, rules}
 use Rattle.std.proofs.{Math.Seq.drop-cons, Math.Seq.take-suc, lemmas.List.drop_all}
-use Rattle.std.specs.Prelude.{◌↔◌}
-use Rattle.desk_model.specs.{Entry.History, Legal.Legal, Limits.last_moment, Tables.picture, declared.call.Call.Call, declared.reply.Reply.Reply, Decide.decide}
+use Rattle.desk_model.specs.{Entry.History, Legal.Legal, Tables.picture, declared.call.Call.Call, declared.reply.Reply.Reply, Decide.decide}
 use Rattle.desk_model.specs.{Decide.after, Run.IsFormedCall, Run.fault, Run.run, Run.and_reply}
-use Rattle.store_api.specs.{Sight.Sight, Sight.Keeps, Storing.Causes}
-use Rattle.desk.specs.Runs.{AnswersAll, EndsBy, EndsCaused, RunsAs, ExitsRun, IsOfModel, IsRun, Runs, TellsLate}
-use Rattle.desk.specs.{Answers.Answers, Answers.ExitsBy, Causes.IsCaused, declared.fault.DeskFault.DeskFault}
+use Rattle.store_api.specs.{Sight.Sight, Sight.Keeps}
+use Rattle.desk.specs.Runs.{AnswersAll, EndsBy, RunsAs, ExitsRun, IsOfModel, IsRun, Runs, TellsLate}
+use Rattle.desk.specs.{Answers.Answers, Answers.ExitsBy, declared.fault.DeskFault.DeskFault}
 use Rattle.desk.specs.declared.fault.DeskFault.TheVariants as deskfault
 
 -- the first items and one more
@@ -28,11 +27,6 @@ ran_out F call calls n some = rw some refl
 
 -- ---- calls that are too late
 
--- the next call ended the run as it was answered
-pub tells_late : (call : Call) (rest : List Call) (why : DeskFault) (result : Result Reply DeskFault) → result ≡ Err why
-    → ((result ≡ Err deskfault.Moment) ↔ (last_moment < call.at)) → TellsLate (call ∷ rest) why
-tells_late call rest why result is told = grind arith
-
 -- memory was refused before it
 pub tells_memory : (rest : List Call) → TellsLate rest deskfault.Memory
 tells_memory rest = record { late = λ is. absurd (let e = is in cc); told = λ past. inr refl }
@@ -44,15 +38,6 @@ late_at calls n i call why counted lt is tells = search (rules, drop-cons)
 
 module _ {S C : Type 0} (v : Sight S C) where
   -- ---- the chain
-
-  -- what a fault comes from, behind the calls that were answered
-  pub caused_at : (causes : Causes S) (old mid new : S) (calls : List Call) (replies : List Reply) (i : ℕ) (why : DeskFault) → length replies ≡ i
-      → AnswersAll v old (take i calls) replies mid → IsCaused v causes mid new why → EndsCaused v causes old new calls replies why
-  caused_at causes old mid new calls replies i why counted all caused = record {
-    from = mid;
-    answered = subst (λ n. AnswersAll v old (take n calls) replies mid) (sym counted) all;
-    cause = caused;
-  }
 
   -- one more call is answered
   pub answers_more : (old now new : S) (calls : List Call) (replies : List Reply) (call : Call) (reply : Reply) → AnswersAll v old calls replies now →
@@ -120,14 +105,12 @@ module _ {S C : Type 0} (v : Sight S C) where
   -- the model stops where the desk does
   stops : (F : History) (call : Call) (calls : List Call) (why : DeskFault) (new : S) → ExitsBy v F call why new → IsOfModel (Some why) →
       run F [] ≡ run F (call ∷ calls)
-  stops F call calls deskfault.Memory new e is = absurd is
-  stops F call calls deskfault.Device new e is = absurd is
-  stops F call calls deskfault.Reopen new e is = absurd is
   stops F call calls deskfault.Moment new e is = sym (ran_out F call calls 24 e.cause)
   stops F call calls deskfault.ShortRandom new e is = sym (ran_out F call calls 25 e.cause)
   stops F call calls deskfault.Full new e is = sym (ran_out F call calls 26 e.cause)
   stops F call calls deskfault.NotADesk new e is = absurd e.cause
   stops F call calls deskfault.NewerFormat new e is = absurd e.cause
+  stops F call calls why new e is = absurd is
 
   -- a run that ends here is the model's
   whole : (F : History) (rest : List Call) (why : Option DeskFault) (new : S) → ExitsRun v F rest why new → IsOfModel why → run F [] ≡ run F rest

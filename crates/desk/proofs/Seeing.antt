@@ -2,8 +2,7 @@
 use Rattle.std.proofs.Common.{◌≡◌, List, [], ◌∷◌, ◌++◌, length, take, drop, refl, sym, ap, subst, ◌∙◌, append_assoc, None, Some, Option, Ok, Err}
 use Rattle.desk_model.specs.declared.{call.Call.Call, reply.Reply.Reply}
 use Rattle.store_api.specs.Sight.{Sight}
-use Rattle.desk.specs.Seen.{Place, runs, Seen, seen_reply, seen_fault, seen_stop, seen_end, seen_open, seen_failure, place_after, told_by, IsExitInPlace}
-use Rattle.desk.specs.Seen.{MaySee, IsSeen}
+use Rattle.desk.specs.Seen.{Place, runs, Seen, seen_reply, seen_fault, seen_stop, place_after, told_by, IsExitInPlace, MaySee, IsSeen}
 use Rattle.desk.specs.{Runs.AnswersAll, Runs.EndsBy, SeenRuns.told_in_turn, SeenRuns.IsSeenEnd, SeenRuns.RunsAreSeen, declared.fault.DeskFault.DeskFault}
 use Rattle.desk.proofs.Running.{honest_all, honest_end}
 
@@ -11,11 +10,7 @@ use Rattle.desk.proofs.Running.{honest_all, honest_end}
 told-append : {S C : Type 0} (later earlier : List (Seen S C)) → told_by (later ++ earlier) ≡ told_by later ++ told_by earlier
 told-append [] earlier = refl
 told-append (seen_reply call reply new ∷ later) earlier = ap (λ l. record { call = call; reply = reply } ∷ l) (told-append later earlier)
-told-append (seen_fault call why new ∷ later) earlier = told-append later earlier
-told-append (seen_stop call exit new c ∷ later) earlier = told-append later earlier
-told-append (seen_end c ∷ later) earlier = told-append later earlier
-told-append (seen_open new ∷ later) earlier = told-append later earlier
-told-append (seen_failure c ∷ later) earlier = told-append later earlier
+told-append (x ∷ later) earlier = told-append later earlier
 
 module _ {S C : Type 0} (v : Sight S C) where
   -- one thing more is seen where a desk runs

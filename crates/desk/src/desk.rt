@@ -47,6 +47,7 @@ impl<K: Storage + Drop> Model for Desk<K> {
 }
 
 // The reply to a call that was read, over an open store from which a part for it was loaded.
+#[tactic(auto, using(crate::proofs::Exiting::answered_alone, crate::proofs::Exiting::core_result_in_time, crate::proofs::Exiting::nothing, crate::proofs::Exiting::saved, crate::proofs::Exiting::storage_result_in_time, crate::proofs::Exiting::unsaved))]
 fn attempt_by<K: Storage + Drop>(
     alloc: Global,
     store: &mut K,
@@ -68,6 +69,7 @@ fn attempt_by<K: Storage + Drop>(
 }
 
 // The reply to a call that was read, over an open store.
+#[tactic(auto, using(crate::proofs::Exiting::storage_result_in_time, store_api::proofs::Readings::unchanged_read))]
 fn attempt<K: Storage + Drop>(
     alloc: Global,
     store: &mut K,
@@ -150,6 +152,7 @@ impl<K: Storage + Drop> Desk<K> {
     /// # Errors
     ///
     /// The fault of the call, or `Memory`: the desk is then as it was. `Device` or `Reopen`: the desk is closed.
+    #[tactic(auto, using(crate::proofs::Exiting::read_in_time, crate::proofs::Exiting::read_late, crate::proofs::Exiting::unread_open))]
     pub fn answer(&mut self, alloc: Global, call: &Call) -> Result<Reply, DeskFault>
         ensures closed { IsTrue self.old.is_closed → (result ≡ Err fault.Reopen) × (self.new ≡ self.old) }
         ensures late { self.old.is_closed ≡ false → (result ≡ Err fault.Moment) ↔ (last_moment < call.now.at) }
@@ -207,6 +210,7 @@ impl<K: Storage + Drop> Desk<K> {
 
     /// The replies to calls made in turn, up to the first fault, and that fault. Where there is no memory for a reply's
     /// place, the call is not made.
+    #[tactic(auto, using(crate::proofs::Running::runs))]
     pub fn run(&mut self, alloc: Global, calls: &[Call]) -> (Vec<Reply>, Option<DeskFault>)
         ensures closed { IsTrue self.old.is_closed → (result.0.items ≡ []) × (result.1 ≡ Some fault.Reopen) × (self.new ≡ self.old) }
         ensures exit { self.old.is_closed ≡ false → Runs K.Kept.sight calls.now self.old.store self.new.store result.0.items result.1 }
@@ -224,6 +228,7 @@ impl<K: Storage + Drop> Desk<K> {
     }
 
     // The replies to the calls before the first fault, and the fault.
+    #[tactic(auto, using(crate::proofs::Running::answers_more, crate::proofs::Running::declines, crate::proofs::Running::ends_at, crate::proofs::Running::ends_with_all, crate::proofs::Running::late_at, crate::proofs::Running::take_one_more, crate::proofs::Running::tells_memory))]
     fn answer_all(&mut self, alloc: Global, calls: &[Call]) -> (Vec<Reply>, Option<DeskFault>)
         requires { self.old.is_closed ≡ false }
         ensures chain { RunsAs K.Kept.sight self.old.store calls.now result.0.items result.1 self.new.store }

@@ -18,6 +18,7 @@ use sqlite_disk::Disk;
 /// # Errors
 ///
 /// `Storage` where the copy failed, by the fault of the engine's error: a stop then leaves no more than it did, and the next opening reads both files.
+#[tactic(auto, using(crate::proofs::Closed::ends_as_stop, crate::proofs::Closed::has_closed, crate::proofs::Closed::left_of))]
 pub fn close_from<D: Disk + Drop>(
     store: Store<FileStore<D>>,
 ) -> Result<Files<D>, (OpenFault, FileStore<D>)>

@@ -24,6 +24,7 @@ use std::alloc::Global;
 /// # Errors
 ///
 /// Those of `Store::make`, and `Storage` where the desk was made and its store then failed; with the connection.
+#[tactic(auto, using(crate::proofs::Adopting::clean_before, std::proofs::Common::inl, std::proofs::Common::inr, crate::proofs::Adopting::left_on, crate::proofs::Adopting::of_storage, crate::proofs::Adopting::still_made, crate::proofs::Adopting::survived))]
 pub fn make_desk<S: Alter + Drop>(
     alloc: Global,
     conn: Connection<S>,
@@ -58,6 +59,7 @@ pub fn make_desk<S: Alter + Drop>(
 /// # Errors
 ///
 /// Those of `Store::open`, and `Storage` where the store was opened and then failed; with the connection.
+#[tactic(auto, using(sql_schema::proofs::StaysLemmas::asks_then, crate::proofs::Adopting::clean_before, std::proofs::Common::inl, std::proofs::Common::inr, crate::proofs::Adopting::left_on, crate::proofs::Adopting::not_newer, crate::proofs::Adopting::not_refused, crate::proofs::Adopting::of_storage, crate::proofs::Adopting::survived))]
 pub fn open_desk<S: Alter + Drop>(
     alloc: Global,
     conn: Connection<S>,
@@ -104,6 +106,7 @@ pub fn close_desk<S: Alter + Drop>(desk: Desk<Store<S>>) -> Connection<S>
 }
 
 // The desk of a store; or why there is none, with the connection of the store.
+#[tactic(auto, using(crate::proofs::Adopting::reads_keeps))]
 fn adopt<S: Alter + Drop>(alloc: Global, store: Store<S>) -> Result<Desk<Store<S>>, Unopened<S>>
     ensures opened { IfOk result (λ desk. desk.is_closed ≡ false) }
     ensures asks { MatchResult result

@@ -18,6 +18,7 @@ use sqlite::{Alter, Connection};
 use std::alloc::Global;
 
 // Opens the desk of a connection, in either format; `Store::open` says when not.
+#[tactic(auto, using(crate::proofs::Opened::early_survives, std::proofs::Common::inl, std::proofs::Common::inr, crate::proofs::Opened::same_left))]
 fn open_tables<A: Alter>(alloc: Global, conn: Connection<A>) -> Result<Store<A>, Unopened<A>>
     requires idle { conn.in_transaction ≡ false }
     ensures honest { MatchResult result
@@ -42,6 +43,7 @@ fn open_tables<A: Alter>(alloc: Global, conn: Connection<A>) -> Result<Store<A>,
 }
 
 // Makes a desk in the database of a connection; `Store::make` says when not.
+#[tactic(auto, using(crate::proofs::Opened::by_cases, std::proofs::Common::inl, std::proofs::Common::inr, std::proofs::Common::le_refl))]
 fn make_tables<A: Alter>(
     alloc: Global,
     conn: Connection<A>,

@@ -1,6 +1,6 @@
 -- What the opening of a desk in either format leaves.
 use Rattle.std.proofs.Common.{◌≡◌, ◌≢◌, Bool, Result, Ok, Err, inl, inr, true, false, refl, ap, sym, subst, ◌∙◌, arith}
-use Rattle.std.specs.Prelude.{◌⊎◌, IfErr, IsTrue, OnErr, OnOk}
+use Rattle.std.specs.Prelude.{◌⊎◌, IfErr, IsTrue, OnErr}
 use Rattle.sqlite.proofs.StateLemmas.{survives_then, survives_weaker}
 use Rattle.sqlite.specs.State.{State, HasCleanDisk, IsUnchanged, Survives}
 use Rattle.sqlite.specs.{Effect.Database, Schema.Schema, Store.Ghosts, Tree.Trees, Held.Held, Held.state}
@@ -68,21 +68,6 @@ always_err (Err why) p = p
 pub any_fault : {R E : Type 0} (P : E → Type 0) (result : Result R E) → ((why : E) → P why) → IfErr result P
 any_fault P (Ok done) f = tt
 any_fault P (Err why) f = f why
-
--- what follows of each fault
-pub of_faults : {R E : Type 0} (P Q : E → Type 0) (result : Result R E) → ((why : E) → P why → Q why) → IfErr result P → IfErr result Q
-of_faults P Q (Ok done) f p = tt
-of_faults P Q (Err why) f p = f why p
-
--- what follows of an answer
-pub of_answer : {R E P Q : Type 0} (result : Result R E) → (P → Q) → OnOk result P → OnOk result Q
-of_answer (Ok done) f p = f p
-of_answer (Err why) f p = tt
-
--- what follows of a failure
-pub of_failure : {R E P Q : Type 0} (result : Result R E) → (P → Q) → OnErr result P → OnErr result Q
-of_failure (Ok done) f p = tt
-of_failure (Err why) f p = f p
 
 -- no desk and no later format: only one of these is left
 pub refused_so : {R P : Type 0} (result : Result R OpenFault) → (result ≡ Err NotADesk → P) → result ≢ Err NewerFormat

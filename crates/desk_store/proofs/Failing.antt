@@ -1,4 +1,5 @@
 -- What a call that failed left.
+use Rattle.std.proofs.lemmas.Result.{IfErr-weaker}
 use Rattle.std.proofs.Common.{◌≡◌, List, false, None, Result, Ok, Err, inl, inr, arith}
 use Rattle.std.specs.Prelude.{IfErr}
 use Rattle.sqlite.specs.{Held.Held, Held.state, State.State, State.HasCleanDisk, State.Survives, Store.Ghosts}
@@ -12,8 +13,8 @@ use Rattle.store_api.specs.{Sight.Reads, declared.fault.StorageFault.StorageFaul
 use Rattle.store_api.specs.declared.fault.StorageFault.TheVariants as storagefault
 use Rattle.desk_store.specs.Causes.{Failed, FailedToSave, IsMetFault, IsOfSave, IsSilent, LeavesNothing}
 use Rattle.desk_store.specs.{Desks.store_sight, Opening.FailedToOpen, Opening.FailedToUpgrade, declared.store.Store.Store}
-use Rattle.desk_store.specs.declared.open_fault.OpenFault.{OpenFault, TheVariants.NewerFormat, TheVariants.NotADesk, TheVariants.Storage}
-use Rattle.desk_store.proofs.{EitherFormat.of_faults, OpeningFaults.met_later}
+use Rattle.desk_store.specs.declared.open_fault.OpenFault.{OpenFault, TheVariants.Storage}
+use Rattle.desk_store.proofs.{OpeningFaults.met_later}
 
 -- nothing is left that was not, where no commit survives
 pub leaves_nothing : (old new : State) → Survives old new (λ _. ⊥) → LeavesNothing old new
@@ -63,8 +64,7 @@ read_failed g old new (Err why) reads = reads_nothing g old new (Err why) reads
 pub opened_nothing : {S : Type 0} (g : Ghosts S) (old new : Held S) (f : OpenFault) → LeavesNothing (state g old) (state g new)
     → (HasCleanDisk (state g new) → IsMetFault (state g old) (state g new) f) → FailedToOpen g old new f
 opened_nothing g old new (Storage why) left met = inl (record { nothing = left; met = met })
-opened_nothing g old new NotADesk left met = left
-opened_nothing g old new NewerFormat left met = left
+opened_nothing g old new f left met = left
 
 -- whatever it answers
 pub asked_to_open : {S R : Type 0} (g : Ghosts S) (old new : Held S) (result : Result R OpenFault) → Asks (state g old) (state g new)
@@ -93,9 +93,8 @@ module _ {S : Type 0} (g : Ghosts S) (old mid new : Held S) (asked : Asks (state
     met = λ clean. met_later (state g old) (state g mid) (state g new) (Storage why) asked (read.met clean);
   })
   open_behind (Storage why) (inr upgrade) = inr (upgrade_behind why upgrade)
-  open_behind NotADesk left = nothing_then (state g old) (state g mid) (state g new) (leaves_nothing _ _ asked.survives) left
-  open_behind NewerFormat left = nothing_then (state g old) (state g mid) (state g new) (leaves_nothing _ _ asked.survives) left
+  open_behind f left = nothing_then (state g old) (state g mid) (state g new) (leaves_nothing _ _ asked.survives) left
 
   -- whatever it answers
   pub opened_behind : {R : Type 0} (result : Result R OpenFault) → IfErr result (FailedToOpen g mid new) → IfErr result (FailedToOpen g old new)
-  opened_behind result = of_faults (FailedToOpen g mid new) (FailedToOpen g old new) result open_behind
+  opened_behind result = IfErr-weaker result (FailedToOpen g mid new) (FailedToOpen g old new) open_behind

@@ -15,7 +15,8 @@ use Rattle.sql_tables.proofs.{Keyed.ranked, Sorting.each_put}
 use Rattle.sql_read.specs.Earliest.{IsEarliest, authorization_ends, issues, order_ends}
 use Rattle.desk_store.specs.Known.{EndFrom, IsKnownOf, bound_of, earlier, known_nonce, lowered, nonce_place, nothing, without}
 use Rattle.desk_store.specs.declared.known.Known.{Known}
-use Rattle.desk_store.proofs.KnownNonces.{found_alone, none_there, nonce_there, nonces_left, nonces_put, same_everywhere}
+use Rattle.desk_store.proofs.KnownNonces.{none_there, nonce_there, nonces_left, nonces_put, same_everywhere}
+use Rattle.store_api.proofs.Lacking.{rows_one}
 
 -- ---- nothing
 
@@ -270,7 +271,7 @@ none_past {X} code end ends place m xs h late =
 -- the nonce that is known is the one of its serial
 pub serial_found : (known : Known) (T : Tables) (n : ℕ) (x : Nonce) → IsKnownOf known T → Ascends (λ y. y.serial) 1 T.nonces
     → known_nonce known.nonces n ≡ Some x → nonces_numbered T n ≡ x ∷ []
-serial_found known T n x is ascends here = found_alone (λ y. y.serial) n 1 x T.nonces ascends (nonce_there known.nonces T.nonces n x is.nonces here)
+serial_found known T n x is ascends here = rows_one (λ y. y.serial) 1 n x T.nonces ascends (nonce_there known.nonces T.nonces n x is.nonces here)
 
 -- no nonce was issued before
 pub no_nonces_before : (known : Known) (T : Tables) (m first : ℕ) → IsKnownOf known T → first ≡ known.first_issue → m ≤ first → nonces_before T m ≡ []

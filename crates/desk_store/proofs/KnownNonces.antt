@@ -1,11 +1,9 @@
 -- Rows by number where one is put or removed, and the nonces that are known, in their places.
-use Rattle.std.proofs.Common.{◌≡◌, ◌≢◌, ◌⊎◌, inl, inr, ◌+◌, ℕ, zero, suc, Bool, true, false, not, List, [], ◌∷◌, filter, cond, Option, None, Some, refl, sym}
-use Rattle.std.proofs.Common.{ap, subst, ◌∙◌, arith}
+use Rattle.std.proofs.Common.{◌≡◌, ◌≢◌, ◌⊎◌, inl, inr, ℕ, zero, suc, Bool, true, false, not, List, [], ◌∷◌, cond, Option, None, Some, refl, sym, ap, subst, ◌∙◌}
 use Rattle.std.proofs.{lemmas.Bool.eq-eqb, lemmas.Bool.eqb-true, lemmas.Bool.ne_eqb, lemmas.List.get_or-set_other}
 use Rattle.std.specs.Prelude.{◌==◌, find, is_some, nat_lt, replicate, slice_index_or, slice_set, if◌then◌else◌}
 use Rattle.desk_model.specs.{Change.put, Change.remove, declared.objects.Nonce.Nonce}
-use Rattle.model_laws.specs.Ordered.{Ascends}
-use Rattle.model_laws.proofs.{Local.find_kept, RowLists.Above, RowLists.ascends_above}
+use Rattle.model_laws.proofs.{Local.find_kept}
 use Rattle.desk_store.specs.Known.{AreThere, known_nonce, nonce_at, nonce_place, of_serial, without}
 
 -- ---- rows by number
@@ -49,31 +47,6 @@ put_beside {X} number x n (y ∷ ys) apart = by (number x == number y) (nat_lt (
 removed_beside : {X : Type 0} (number : X → ℕ) (m n : ℕ) (rows : List X) → m ≢ n
     → find (λ y. number y == n) (remove number m rows) ≡ find (λ y. number y == n) rows
 removed_beside number m n rows apart = find_kept number (λ k. not (m == k)) n rows (ap not (ne_eqb m n apart))
-
--- rows above a number are none of it
-none_of : {X : Type 0} (number : X → ℕ) (n : ℕ) (rows : List X) → Above number n rows → filter (λ y. number y == n) rows ≡ []
-none_of number n [] above = refl
-none_of number n (y ∷ ys) above =
-    ap (λ b. cond b (y ∷ filter (λ z. number z == n) ys) (filter (λ z. number z == n) ys))
-    (ne_eqb (number y) n (let up = above.0 in omega (arith, up)))
-    ∙ none_of number n ys above.1
-
--- where rows ascend, the one that is found is the only one of its number
-pub found_alone : {X : Type 0} (number : X → ℕ) (n low : ℕ) (x : X) (rows : List X) → Ascends number low rows → find (λ y. number y == n) rows ≡ Some x
-    → filter (λ y. number y == n) rows ≡ x ∷ []
-found_alone number n low x [] ascends found = cc
-found_alone {X} number n low x (y ∷ ys) ascends found =
-    by (number y == n) refl found (found_alone number n (number y + 1) x ys ascends.1)
-  where
-    by : (b : Bool) → (number y == n) ≡ b → cond b (Some y) (find (λ z. number z == n) ys) ≡ Some x
-        → (find (λ z. number z == n) ys ≡ Some x → filter (λ z. number z == n) ys ≡ x ∷ [])
-        → cond b (y ∷ filter (λ z. number z == n) ys) (filter (λ z. number z == n) ys) ≡ x ∷ []
-    by true is one ih =
-        let same : y ≡ x = cc in
-        let above : Above number n ys =
-        subst (λ k. Above number k ys) (eqb-true (number y) n is) (ascends_above number (number y) (number y + 1) ys (omega arith) ascends.1) in
-        ap (λ zs. y ∷ zs) (none_of number n ys above) ∙ ap (λ z. z ∷ []) same
-    by false is one ih = ih one
 
 -- ---- nonces in their places
 

@@ -30,8 +30,7 @@ failure_is_storage error why (inr (inr (inr full))) is = (fault.Device, subst (�
 pub reading_is_known : (cause : EngineCause) (why : OpenFault) → IsOfOpening cause why → why ≡ NewerFormat → ⊥
 reading_is_known cause.Memory why (inl goes_on) newer = absurd (let e = sym goes_on ∙ newer in cc)
 reading_is_known cause.Memory why (inr shut) newer = absurd (let e = sym shut ∙ newer in cc)
-reading_is_known cause.Device why is newer = absurd (let e = sym is ∙ newer in cc)
-reading_is_known cause.Other why is newer = absurd (let e = sym is ∙ newer in cc)
+reading_is_known cause why is newer = absurd (let e = sym is ∙ newer in cc)
 
 -- one that tells of no desk failed for neither memory nor the disk
 pub no_desk_is_other : (from : EngineCause) (why : OpenFault) → IsOfOpening from why → why ≡ NotADesk → from ≡ cause.Other
@@ -78,40 +77,12 @@ code_of_device code.DatabaseCorrupt is = refl
 code_of_device code.TooBig is = refl
 code_of_device code.SystemIoFailure is = refl
 code_of_device code.DiskFull is = refl
-code_of_device (code.ConstraintViolation constraint) is = absurd (let e = is in cc)
-code_of_device code.TypeMismatch is = absurd (let e = is in cc)
-code_of_device code.IntegerOverflow is = absurd (let e = is in cc)
-code_of_device code.NoRowid is = absurd (let e = is in cc)
-code_of_device code.ForeignKeyMismatch is = absurd (let e = is in cc)
-code_of_device code.TooDeep is = absurd (let e = is in cc)
-code_of_device code.NoClock is = absurd (let e = is in cc)
-code_of_device code.NameTaken is = absurd (let e = is in cc)
-code_of_device code.BadName is = absurd (let e = is in cc)
-code_of_device code.BadKey is = absurd (let e = is in cc)
-code_of_device code.BadText is = absurd (let e = is in cc)
-code_of_device code.SchemaTooBig is = absurd (let e = is in cc)
-code_of_device code.TransactionState is = absurd (let e = is in cc)
-code_of_device code.NoSuchSavepoint is = absurd (let e = is in cc)
-code_of_device code.OperationInterrupted is = absurd (let e = is in cc)
-code_of_device code.NotADatabase is = absurd (let e = is in cc)
-code_of_device code.CannotOpen is = absurd (let e = is in cc)
-code_of_device code.DatabaseBusy is = absurd (let e = is in cc)
-code_of_device code.OutOfMemory is = absurd (let e = is in cc)
-code_of_device code.Closed is = absurd (let e = is in cc)
+code_of_device c is = absurd (let e = is in cc)
 
 -- and so is an error
 of_device : (e : Error) → cause_of e ≡ cause.Device → IsTrue (is_of_device e)
 of_device (error.SqliteFailure c) is = code_of_device c is
-of_device (error.SqlInputError fault) is = absurd (let e = is in cc)
-of_device (error.InvalidParameterCount given wanted) is = absurd (let e = is in cc)
-of_device error.ExecuteReturnedResults is = absurd (let e = is in cc)
-of_device error.InvalidQuery is = absurd (let e = is in cc)
-of_device error.MultipleStatement is = absurd (let e = is in cc)
-of_device error.QueryReturnedNoRows is = absurd (let e = is in cc)
-of_device (error.InvalidColumnIndex at) is = absurd (let e = is in cc)
-of_device (error.InvalidColumnType at kind) is = absurd (let e = is in cc)
-of_device (error.IntegralValueOutOfRange at) is = absurd (let e = is in cc)
-of_device (error.Utf8Error at) is = absurd (let e = is in cc)
+of_device e is = absurd (let e = is in cc)
 
 -- a reading that failed is told as the disk's by such an error
 told_of_device : (c : EngineCause) (f : OpenFault) → IsOfOpening c f → f ≡ Storage fault.Device → c ≡ cause.Device

@@ -1,5 +1,5 @@
 -- What a reading of all rows says, in either format.
-use Rattle.std.proofs.Common.{◌≡◌, Result, inl, inr, arith}
+use Rattle.std.proofs.{lemmas.Result.IfErr-weaker, Common.◌≡◌, Common.Result, Common.inl, Common.inr, Common.arith}
 use Rattle.std.specs.Prelude.{◌⊎◌, IfErr, OnOk}
 use Rattle.sqlite.specs.{Held.Held, Held.state, State.State, State.HasCleanDisk, State.IsUnchanged, Store.Ghosts, declared.error.Error.Error}
 use Rattle.desk_model.specs.Tables.{Tables}
@@ -9,9 +9,9 @@ use Rattle.sql_schema.specs.{Failing.IsFailure, Stays.Asks}
 use Rattle.store_api.specs.declared.fault.StorageFault.TheVariants.{Memory}
 use Rattle.desk_store.specs.{Causes.IsOfOpening, Causes.cause_of, Opening.ReadsRows, declared.open_fault.OpenFault.OpenFault}
 use Rattle.desk_store.specs.{declared.open_fault.OpenFault.TheVariants.NotADesk, declared.open_fault.OpenFault.TheVariants.Storage}
-use Rattle.desk_store.specs.declared.faults.EngineCause.TheVariants as cause
 use Rattle.desk_store.proofs.OpeningFaults.{book_is_known, book_met, failure_is_storage, no_desk_is_other, none_has, opening_met, reading_is_known}
-use Rattle.desk_store.proofs.{Books.always_ok, EitherFormat.of_faults, NothingWritten.failed, NothingWritten.same_fault}
+use Rattle.desk_store.proofs.{Books.always_ok, NothingWritten.failed, NothingWritten.same_fault}
+use Rattle.desk_store.specs.declared.faults.EngineCause.TheVariants as cause
 
 module _ {S : Type 0} (g : Ghosts S) {Has : State → Tables → Type 0} {Shows Lacks : Held S → Type 0} where
   -- where a reading failed
@@ -44,7 +44,8 @@ module _ {S : Type 0} (g : Ghosts S) {Has : State → Tables → Type 0} {Shows 
     no_newer = book_is_known None made fault;
     no_desk = λ clean none. (lacks clean (none_has None made fault none)).0;
     unchanged = λ clean. always_ok made (same clean);
-    desk = λ clean. of_faults _ _ made (λ why is T has. elim is [ inl memory ↦ (Memory, memory) | inr none ↦ absurd ((lacks clean none.1).1 T has) ]) fault;
+    desk = λ clean. IfErr-weaker made _ _
+        (λ why is T has. elim is [ inl memory ↦ (Memory, memory) | inr none ↦ absurd ((lacks clean none.1).1 T has) ]) fault;
     met = λ clean. book_met None (state g old) (state g new) made fault;
     answering = λ clean memory. (same clean).0.is_open;
     asks = asked;

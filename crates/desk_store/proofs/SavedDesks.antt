@@ -1,11 +1,10 @@
 -- Saving over a connection is what is asked of a store.
-use Rattle.std.proofs.Common.{◌≡◌, ℕ, ◌+◌, List, [], ◌∷◌, map, Option, Some, None, Bool, true, false, Result, Ok, Err, inl, inr, refl, sym, ap, subst, ◌∙◌}
-use Rattle.std.proofs.Common.{arith}
+use Rattle.std.proofs.Common.{◌≡◌, ℕ, ◌+◌, List, [], ◌∷◌, map, Option, Some, None, Bool, true, false, Result, Ok, Err, inl, inr, refl, sym, subst, ◌∙◌, arith}
 use Rattle.std.proofs.lemmas.Bool.{eqb-true}
 use Rattle.std.specs.{List.filter, Prelude.◌⊎◌, Prelude.◌==◌, Prelude.IfSome, Prelude.cond, Prelude.find, Prelude.option_map}
 use Rattle.sqlite.specs.{Effect.Database, Held.state, Store.Ghosts, Tree.Trees, State.State, State.HasCleanDisk, State.IsUnchanged, State.Survives}
 use Rattle.sqlite.proofs.StateLemmas.{survives_then}
-use Rattle.model_laws.proofs.{Basics.each, Basics.find-map, RowLists.Above, RowLists.ascends_above}
+use Rattle.model_laws.proofs.{Basics.each, RowLists.Above, RowLists.ascends_above}
 use Rattle.model_laws.specs.Ordered.{Ascends}
 use Rattle.desk_model.specs.{Change.applied, Tables.Tables, declared.rows.AccountRow.AccountRow, declared.rows.AuthorizationRow.AuthorizationRow}
 use Rattle.desk_model.specs.{declared.rows.ChallengeRow.ChallengeRow, declared.rows.Change.Change, declared.rows.OrderRow.OrderRow}
@@ -21,6 +20,7 @@ use Rattle.store_api.specs.declared.fault.StorageFault.TheVariants as fault
 use Rattle.desk_store.proofs.NothingWritten.{desk_back, desk_unchanged, failed, honest_by, unchanged_by}
 use Rattle.desk_store.specs.{Desks.IsDesk, Desks.store_sight, Known.IsKnownOf, declared.store.Store.Store}
 use Rattle.sql_tables.specs.Holds.{AreRising}
+use Rattle.desk_book.proofs.SweptRows.{find-moved}
 
 -- the changes may be saved
 may_save : (T : Tables) (changes : List Change) → Fit T changes → FitAfter T changes
@@ -177,12 +177,8 @@ found_thin : {X : Type 0} (key : X → ℕ) (IsOf : X → X → Type 0) (thin : 
     → (part rows : List X) → AreAmong key part rows → AreFound key IsOf (map thin part) rows
 found_thin key IsOf thin same is part rows among n =
     subst (λ o. IfSome o (λ x. (y : _) × (find (λ r. key r == n) rows ≡ Some y) × IsOf x y))
-    (sym (find-map (λ r. key r == n) thin part ∙ ap (option_map thin) (found part))) (go (find (λ r. key r == n) part) (among n))
+    (sym (find-moved (λ r. key r == n) thin part (λ x i. same x i == n))) (go (find (λ r. key r == n) part) (among n))
   where
-    found : (xs : List _) → find (λ x. key (thin x) == n) xs ≡ find (λ x. key x == n) xs
-    found [] = refl
-    found (x ∷ xs) = λ i. cond (same x i == n) (Some x) (found xs i)
-
     go : (o : Option _) → IfSome o (λ x. find (λ r. key r == n) rows ≡ Some x)
         → IfSome (option_map thin o) (λ x. (y : _) × (find (λ r. key r == n) rows ≡ Some y) × IsOf x y)
     go None h = tt

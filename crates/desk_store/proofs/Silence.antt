@@ -20,11 +20,7 @@ came A e = Err e
 -- no failure of the store is told so
 never_of_store : (A : Type 0) (cause : StoreError) → tells_open (came A (store_error cause)) ≡ false
 never_of_store A store.OutOfMemory = refl
-never_of_store A store.Io = refl
-never_of_store A store.Corrupt = refl
-never_of_store A store.Full = refl
-never_of_store A store.Broken = refl
-never_of_store A store.Unstorable = refl
+never_of_store A cause = refl
 
 -- an error that says so leaves the connection open, and as it was
 error_open : (A : Type 0) (old new : State) (e : Error) → IsNotRun old new (codes "ANSWER") [] e → tells_open (came A e) ≡ true → IsUnchanged old new

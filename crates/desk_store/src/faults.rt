@@ -101,6 +101,7 @@ pub(crate) fn commit_fault(error: Error) -> StorageFault
 }
 
 /// The fault of a save that failed. It is one of memory only where the save failed before its commit.
+#[tactic(auto, using(sql_schema::proofs::StaysLemmas::asks_nothing))]
 pub(crate) fn saving_fault<S: Alter>(conn: &mut Connection<S>, fault: SaveFault) -> StorageFault
     ensures fault { IsOfSave fault result }
     ensures early { result ≡ memory → IsBeforeCommit fault }

@@ -101,6 +101,7 @@ impl Known {
     /// # Errors
     ///
     /// Where there is no memory for them.
+    #[tactic(auto, using(crate::proofs::Knowing::serial_found))]
     pub(crate) fn find_nonces(
         &self,
         alloc: Global,
@@ -207,6 +208,7 @@ impl Known {
     }
 
     /// Knows of the tables after these changes what was known of those before them, but for the moments that the changes lower.
+    #[tactic(auto, using(crate::proofs::Knowing::followed_all, crate::proofs::Knowing::followed_one))]
     pub(crate) fn follow(&mut self, changes: &[Change])
         ensures { (T : Tables) → IsKnownOf self.old T → IsKnownOf self.new (applied changes.now T) }
     {

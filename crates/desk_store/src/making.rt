@@ -30,6 +30,7 @@ pub(crate) fn has_objects(schema: &Schema) -> bool
 ///
 /// `Memory`, where a growth was refused and the connection is still open: it has what it had. `Device` or `Reopen`
 /// otherwise: a stop leaves what it left before, or the new desk.
+#[tactic(auto, using(crate::proofs::NothingWritten::back_then, crate::proofs::NewDesks::desk_left, crate::proofs::NewDesks::desk_made, crate::proofs::Failing::failed_to_save, crate::proofs::NothingWritten::same_fault, sqlite::proofs::StateLemmas::survives_then, sqlite::proofs::StateLemmas::survives_weaker))]
 pub(crate) fn make_desk<S: Alter>(
     alloc: Global,
     conn: &mut Connection<S>,

@@ -79,6 +79,7 @@ fn find_additions<S: Alter>(alloc: Global, conn: &mut Connection<S>) -> Result<A
 }
 
 // Makes of the desk in format 1 to which these are added one of today's format, in one transaction.
+#[tactic(auto, using(crate::proofs::NothingWritten::back_then, crate::proofs::Failing::failed_to_save, crate::proofs::NothingWritten::same_fault, sqlite::proofs::StateLemmas::survives_then))]
 fn upgrade_with<S: Alter>(
     conn: &mut Connection<S>,
     additions: Additions,
@@ -103,6 +104,7 @@ fn upgrade_with<S: Alter>(
 }
 
 // Makes of a desk in format 1 the same desk in today's format, in one transaction; or says why not, as `find_additions` or `upgrade_with`.
+#[tactic(auto, using(crate::proofs::NothingWritten::failed, crate::proofs::Upgrading::first_unchanged, std::proofs::Common::inr, crate::proofs::Failing::leaves_nothing, crate::proofs::Failing::opened_nothing, crate::proofs::NothingWritten::same_fault, crate::proofs::OpeningFaults::same_storage, sqlite::proofs::StateLemmas::survives_then, crate::proofs::Upgrading::upgrade_left))]
 fn upgrade_desk<S: Alter>(alloc: Global, conn: &mut Connection<S>) -> Result<(), OpenFault>
     requires idle { conn.old.in_transaction ≡ false }
     ensures idle { conn.new.in_transaction ≡ false }
@@ -142,6 +144,7 @@ fn check_rows<S: Alter>(alloc: Global, conn: &mut Connection<S>) -> Result<(), O
 }
 
 // As `open_desk`, where the tables are not of a later format.
+#[tactic(auto, using(sql_schema::proofs::StaysLemmas::asks_nothing, std::proofs::Common::inl, std::proofs::Common::inr))]
 fn open_known<S: Alter>(alloc: Global, conn: &mut Connection<S>) -> Result<(), OpenFault>
     requires idle { conn.old.in_transaction ≡ false }
     ensures idle { conn.new.in_transaction ≡ false }
@@ -167,6 +170,7 @@ fn open_known<S: Alter>(alloc: Global, conn: &mut Connection<S>) -> Result<(), O
 /// `NewerFormat`, where `meta` has one row of a later format; else `NotADesk`, where a table, a column or an index is missing,
 /// or no book has these rows: nothing was changed. `Storage` where the store failed: of a desk in format 1 a stop leaves what it
 /// left before, or the same desk in today's format.
+#[tactic(auto, using(std::proofs::Common::inl, std::proofs::Common::inr))]
 pub(crate) fn open_desk<S: Alter>(alloc: Global, conn: &mut Connection<S>) -> Result<(), OpenFault>
     requires idle { conn.old.in_transaction ≡ false }
     ensures idle { conn.new.in_transaction ≡ false }

@@ -58,6 +58,7 @@ impl<S: Alter> Store<S> {
     /// `NotADesk` where there is a table, an index or a view; the connection is then the one that was given. `Storage` where the
     /// store failed, by the faults of `save`: `Device` where a statement is refused for what is neither memory, the disk nor a
     /// size. A connection that is still open has what it had.
+    #[tactic(auto, using(crate::proofs::NewDesks::asked_is_none, crate::proofs::NothingWritten::failed, crate::proofs::OpeningFaults::not_bare, crate::proofs::Knowing::nothing_known, crate::proofs::OpeningFaults::same_storage))]
     pub fn make(
         alloc: Global,
         conn: Connection<S>,
@@ -106,6 +107,7 @@ impl<S: Alter> Store<S> {
     /// database is as it was; else a stop leaves what it left before or, of a desk in format 1, the same desk in today's format.
     /// A reading that is refused for what is neither memory, the disk nor a size is `NotADesk`, a statement of the upgrade `Device`; a
     /// reading has `Device` only where the disk failed.
+    #[tactic(auto, using(crate::proofs::NothingWritten::desk_unchanged, crate::proofs::EitherFormat::keeps_second, crate::proofs::Knowing::nothing_known, crate::proofs::EitherFormat::uses_keys))]
     pub fn open(alloc: Global, conn: Connection<S>) -> Result<Store<S>, Unopened<S>>
         requires idle { conn.in_transaction ≡ false }
         ensures idle { MatchResult result (λ store. store.conn.in_transaction ≡ false) (λ un. un.conn.in_transaction ≡ false) }
@@ -156,6 +158,7 @@ impl<S: Alter> Store<S> {
     ///
     /// `Memory`: the store has what it had. `Device` or `Reopen`: it is to be opened again. Of a desk's tables `Device` comes only
     /// where the disk failed.
+    #[tactic(auto, using(crate::proofs::Books::book_ordered, crate::proofs::Failing::read_failed))]
     pub fn load(&mut self, alloc: Global) -> Result<Book, StorageFault>
         ensures reads { Reads (store_sight S.Store) self.old self.new result }
         ensures book { ForTables (store_sight S.Store) self.old self.new (λ T. IfOk result (λ book. book ≡ T)) }
@@ -169,6 +172,7 @@ impl<S: Alter> Store<S> {
     /// # Errors
     ///
     /// As of `load`.
+    #[tactic(auto, using(sql_schema::proofs::StaysLemmas::asks_then, crate::proofs::NothingWritten::failed, crate::proofs::NothingWritten::hands_on, crate::proofs::Failing::read_failed, store_api::proofs::Readings::reads_failed_as, store_api::proofs::Readings::reads_unchanged, store_api::proofs::Readings::unchanged_read))]
     pub fn policy(&mut self, alloc: Global) -> Result<Policy, StorageFault>
         ensures reads { Reads (store_sight S.Store) self.old self.new result }
         ensures found { ForTables (store_sight S.Store) self.old self.new (λ T. IfOk result (λ policy. policy ≡ T.meta.policy)) }
@@ -261,10 +265,12 @@ impl<S: Alter> Storage for Store<S> {
         Store::policy(self, alloc)
     }
 
+    #[tactic(auto, using(crate::proofs::Failing::read_failed))]
     fn load_part(&mut self, alloc: Global, call: &ParsedCall) -> Result<Book, StorageFault> {
         load_enough(alloc, self, call)
     }
 
+    #[tactic(auto, using(crate::proofs::SavedDesks::part_found, crate::proofs::SavedDesks::saves_of))]
     fn save(
         &mut self,
         alloc: Global,

@@ -4,15 +4,10 @@ use Rattle.std.proofs.lemmas.Result.{on_ok_weaker}
 use Rattle.std.specs.{Prelude.option_to_list, Option.MatchOption}
 use Rattle.model_laws.specs.Placing.{puts}
 use Rattle.store_api.specs.{Finding.Finds, Finding.LacksMemory, Sight.Gives, Sight.Sight, declared.fault.StorageFault.StorageFault}
-use Rattle.store_api.proofs.{Gathered.into_if_found, Readings.reads_failing, Readings.reads_found, Readings.reads_then, Readings.unchanged_read}
+use Rattle.store_api.proofs.{Gathered.into_if_found, Readings.reads_failing, Readings.reads_then, Readings.unchanged_read, Readings.reads_of_tables}
 use Rattle.desk_model.specs.Tables.{Tables}
 
 module _ {S C : Type 0} {v : Sight S C} where
-  -- what follows from what was found
-  pub finds_so : {A : Type 0} {old new : S} {P Q : Tables → Type 0} (r : Result A StorageFault) → Finds v old new r P → ((T : Tables) → P T → Q T) →
-      Finds v old new r Q
-  finds_so r finds so = record { reads = finds.reads; found = λ honest T held. on_ok_weaker r (so T) (finds.found honest T held) }
-
   -- a look-up behind others
   pub finds_then : {A B : Type 0} {old mid new : S} {a : B} {P Q R : Tables → Type 0} (r : Result A StorageFault) →
       Finds v old mid (Ok a) P → Finds v mid new r Q → ((T : Tables) → P T → Q T → R T) →
@@ -67,7 +62,7 @@ module _ {S C : Type 0} {v : Sight S C} where
       IfOk looked (λ vs. OnOk r (later ≡ into (items vs) rows)) → IfOk looked (λ _. IfErr r LacksMemory) → IfErr looked (λ why. r ≡ Err why) →
       Finds v old new r (λ T. later ≡ into (rows_of T) rows)
   finds_into {looked = looked} {r = r} into items rows_of rows later gives put_now lacks passed = record {
-    reads = reads_found looked r gives.reads lacks passed;
+    reads = reads_of_tables looked r gives.reads (λ honest T held. lacks) passed;
     found = λ honest T held. into_if_found into items looked r (rows_of T) rows later put_now passed (gives.found honest T held);
   }
 

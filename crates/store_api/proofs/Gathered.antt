@@ -1,5 +1,5 @@
 -- Rows that are looked up one number after the other, each put into its place.
-use Rattle.std.proofs.Common.{◌≡◌, ℕ, Bool, filter, List, [], ◌∷◌, ◌++◌, Result, Err, IfErr, IfOk, OnOk, ap, append-nil, sym, ◌∙◌, rules}
+use Rattle.std.proofs.Common.{◌≡◌, ℕ, List, [], ◌∷◌, ◌++◌, Result, Err, IfErr, IfOk, OnOk, ap, append-nil, sym, ◌∙◌, rules}
 use Rattle.std.specs.List.{flat_map}
 use Rattle.model_laws.specs.Placing.{puts}
 use Rattle.model_laws.proofs.RowLists.{puts_append}
@@ -12,11 +12,6 @@ pub gathered : {N X : Type 0} (number : X → ℕ) (rows_of : N → List X) (n :
     puts number (flat_map rows_of before) rows ≡ all →
     puts number (flat_map rows_of rest) later ≡ all
 gathered number rows_of n before rest found rows later all next looked put_now all_of = search (rules, puts_append)
-
--- one more row is put, if it passes
-pub put_passed : {X : Type 0} (number : X → ℕ) (p : X → Bool) (row : X) (before rest table later all : List X) → before ≡ row ∷ rest →
-    later ≡ puts number (filter p (row ∷ [])) table → puts number (filter p before) table ≡ all → puts number (filter p rest) later ≡ all
-put_passed number p row before rest table later all next put_now so_far = search rules
 
 -- what was found is put in some way, where there was no fault
 pub into_if_found : {F V B X : Type 0} (into : List X → List X → List X) (items : V → List X) (found : Result V F) (r : Result B F) (xs rows later : List X) →

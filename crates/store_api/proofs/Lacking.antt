@@ -1,23 +1,24 @@
 -- Rows that are put into a table which lacks them, without what belongs to them.
 use Rattle.std.proofs.Common.{◌≡◌, ◌+◌, ℕ, List, [], ◌∷◌, ◌++◌, append_assoc, map, find, Option, Some, None, refl, sym, ap, ◌∙◌, subst, true, false, Bool}
-use Rattle.std.proofs.Common.{arith, cond}
+use Rattle.std.proofs.Common.{arith, cond, rules}
 use Rattle.std.proofs.{lemmas.Bool.eqb-true, lemmas.Bool.or_right, lemmas.List.map-append}
 use Rattle.std.specs.{Prelude.◌==◌, Prelude.if◌then◌else◌, Prelude.is_some, Prelude.not, Prelude.option_map, List.filter, List.flat_map}
-use Rattle.desk_model.specs.{Asked.asked_names, Asked.asks_orders, Change.put, Derived.numbers_of, Kept.EachOf, Tables.Tables, declared.call.Ask.Ask}
+use Rattle.desk_model.specs.{Asked.asked_names, Asked.asks_orders, Derived.numbers_of, Kept.EachOf, Tables.Tables, declared.call.Ask.Ask}
 use Rattle.desk_model.specs.{declared.rows.AccountRow.AccountRow, declared.rows.AuthorizationRow.AuthorizationRow, declared.rows.OrderRow.OrderRow}
-use Rattle.model_laws.proofs.Basics.{each, find-map, map-each, more_differs}
-use Rattle.model_laws.proofs.RowLists.{ascends_above, ascends_found, puts_append}
+use Rattle.model_laws.proofs.{Basics.each, Basics.map-each, Basics.more_differs, RowLists.ascends_above, RowLists.ascends_found, RowLists.puts_append}
 use Rattle.model_laws.specs.{Ordered.Ascends, Ordered.IsOrdered, Placing.puts}
 use Rattle.model_lives.specs.MinimalPart.{as_needed, authorization_as_needed, is_whole_authorization, is_whole_order, needed_rows, needs_listed}
 use Rattle.model_lives.specs.MinimalPartLoaded.{minimal_accounts, listed_orders, moved_authorizations, opened_orders, restated_authorizations}
 use Rattle.model_lives.specs.MinimalPartLoaded.{whole_authorizations}
 use Rattle.model_lives.specs.Loaded.{accounts_once, authorizations_asked_of, authorizations_once, listed_authorizations, named_orders, orders_once}
-use Rattle.model_lives.specs.LookUps.{authorizations_numbered, bare_authorizations, summaries_of, orders_of}
-use Rattle.model_lives.specs.Thinned.{summarized, whole_if, without_challenges}
+use Rattle.model_lives.specs.LookUps.{authorizations_numbered, bare_authorizations, summaries_of, orders_of, AreNumbers, orders_processing, owners_processing}
+use Rattle.model_lives.specs.{Thinned.summarized, Thinned.whole_if, Thinned.without_challenges, IsEnough.has_work, IsEnough.is_worked_on}
 use Rattle.model_lives.proofs.MinimalPartLoading.{listed_orders_found, loaded_minimal, whole_authorizations_found, whole_found}
-use Rattle.model_lives.proofs.{Found.found_table, Lists.filter_nothing, Lists.filter_same, Lists.filtered_each, Loading.of_authorization, Loading.of_order}
-use Rattle.store_api.proofs.{Bare.nested, Bare.put_bare, Bare.puts_bare, Missing.missing_put, Missing.put_number, Missing.rows_at, Missing.with_number}
+use Rattle.model_lives.proofs.Lists.{filter_nothing, filter_same, filtered_each}
+use Rattle.model_lives.proofs.{Found.found_table, Loading.of_authorization, Loading.of_order, WorkLoading.listed_loaded, WorkLoading.work_loaded}
+use Rattle.store_api.proofs.{Bare.nested, Bare.puts_bare, Missing.missing_put, Missing.put_number, Missing.rows_at, Missing.with_number}
 use Rattle.store_api.specs.Needing.{lacking, missing, missings}
+use Rattle.desk_book.proofs.SweptRows.{find-moved}
 
 -- the rows of a number that is found are that row
 pub rows_one : {X : Type 0} (number : X → ℕ) (m n : ℕ) (z : X) (xs : List X) → Ascends number m xs → find (λ x. number x == n) xs ≡ Some z →
@@ -45,62 +46,17 @@ still_found number q z (x ∷ xs) passes is = grind (arith, (still_found number 
 module _ {X : Type 0} (number : X → ℕ) (bare needed : X → X) (bare_number : (x : X) → number (bare x) ≡ number x)
     (needed_number : (x : X) → number (needed x) ≡ number x) (is_whole : X → Bool) (else_bare : (x : X) → is_whole x ≡ false → bare x ≡ needed x)
     (xs : List X) (up : Ascends number 1 xs) where
-  -- one row more
-  lacking_one : (q : X → Bool) → ((x : X) → is_whole x ≡ true → q x ≡ true) → (z : X) → find (λ x. number x == number z) xs ≡ Some z →
-      missing number (λ n. bare z ∷ []) (number (bare z)) (map needed (filter q xs)) ≡ map needed (filter (with_number number xs (number z) q) xs)
-  lacking_one q wide z is =
-      ap (λ n. missing number (λ k. bare z ∷ []) n (map needed t)) (bare_number z)
-      ∙ ap (λ o. cond (is_some o) (map needed t) (puts number (bare z ∷ []) (map needed t)))
-      (find-map (λ x. number x == number z) needed t ∙ ap (option_map needed) (found t))
-      ∙ by (find (λ x. number x == number z) t) refl
-      ∙ ap (map needed) (missing_put number xs up (number z) q)
-    where
-      t : List X
-      t = filter q xs
-
-      found : (ys : List X) → find (λ x. number (needed x) == number z) ys ≡ find (λ x. number x == number z) ys
-      found [] = refl
-      found (y ∷ ys) = λ i. cond (needed_number y i == number z) (Some y) (found ys i)
-
-      fails : find (λ x. number x == number z) t ≡ None → (b : Bool) → is_whole z ≡ b → b ≡ false
-      fails none true e = absurd (let there : find (λ x. number x == number z) t ≡ Some z = still_found number q z xs (wide z e) is in
-          let both : None ≡ Some z = sym none ∙ there in cc)
-      fails none false e = refl
-
-      by : (o : Option X) → find (λ x. number x == number z) t ≡ o →
-          cond (is_some (option_map needed o)) (map needed t) (puts number (bare z ∷ []) (map needed t))
-          ≡ map needed (cond (is_some o) t (puts number (rows_at number xs (number z)) t))
-      by (Some y) e = refl
-      by None e =
-          ap (λ r. put number r (map needed t)) (else_bare z (fails e (is_whole z) refl))
-          ∙ put_bare number needed needed_number z t
-          ∙ ap (λ rows. map needed (puts number rows t)) (sym (rows_one number 1 (number z) z xs up is))
-
-  -- rows that the table lacks are put as they are needed, where it has those that are needed in whole
-  lacking_all : (zs : List X) → EachOf (λ z. find (λ x. number x == number z) xs ≡ Some z) zs → (q : X → Bool) →
-      ((x : X) → is_whole x ≡ true → q x ≡ true) → lacking number (map bare zs) (map needed (filter q xs)) ≡ map needed (puts number zs (filter q xs))
-  lacking_all [] h q wide = refl
-  lacking_all (z ∷ zs) h q wide =
-      ap (lacking number (map bare zs)) (lacking_one q wide z h.0)
-      ∙ lacking_all zs h.1 (with_number number xs (number z) q) (λ x w. or_right _ _ (wide x w))
-      ∙ ap (λ t. map needed (puts number zs t))
-      (sym (put_number number xs up (number z) q) ∙ ap (λ rows. puts number rows (filter q xs)) (rows_one number 1 (number z) z xs up h.0))
-
   -- the rows of a number, where the table lacks it
   bare_one : (q : X → Bool) → ((x : X) → is_whole x ≡ true → q x ≡ true) → (n : ℕ) →
       missing number (λ k. map bare (rows_at number xs k)) n (map needed (filter q xs)) ≡ map needed (filter (with_number number xs n q) xs)
   bare_one q wide n =
       ap (λ o. cond (is_some o) (map needed t) (puts number (map bare (rows_at number xs n)) (map needed t)))
-      (find-map (λ x. number x == n) needed t ∙ ap (option_map needed) (found t))
+      (find-moved (λ x. number x == n) needed t (λ x i. needed_number x i == n))
       ∙ by (find (λ x. number x == n) t) refl
       ∙ ap (map needed) (missing_put number xs up n q)
     where
       t : List X
       t = filter q xs
-
-      found : (ys : List X) → find (λ x. number (needed x) == n) ys ≡ find (λ x. number x == n) ys
-      found [] = refl
-      found (y ∷ ys) = λ i. cond (needed_number y i == n) (Some y) (found ys i)
 
       fails : find (λ x. number x == n) t ≡ None → (z : X) → find (λ x. number x == number z) xs ≡ Some z → (number z == n) ≡ true →
           (b : Bool) → is_whole z ≡ b → bare z ≡ needed z
@@ -120,6 +76,24 @@ module _ {X : Type 0} (number : X → ℕ) (bare needed : X → X) (bare_number 
           (filtered_each _ (λ x. number x == n) xs
           (each _ _ xs (λ z there here. fails e z there here (is_whole z) refl) (ascends_found number 1 xs up))))
           ∙ puts_bare number needed needed_number (rows_at number xs n) t
+
+  -- one row more
+  lacking_one : (q : X → Bool) → ((x : X) → is_whole x ≡ true → q x ≡ true) → (z : X) → find (λ x. number x == number z) xs ≡ Some z →
+      missing number (λ n. bare z ∷ []) (number (bare z)) (map needed (filter q xs)) ≡ map needed (filter (with_number number xs (number z) q) xs)
+  lacking_one q wide z is =
+      let table : List X = map needed (filter q xs) in
+      let alone : bare z ∷ [] ≡ map bare (rows_at number xs (number z)) = ap (map bare) (sym (rows_one number 1 (number z) z xs up is)) in
+      (λ i. cond (is_some (find (λ x. number x == bare_number z i) table)) table (puts number (alone i) table)) ∙ bare_one q wide (number z)
+
+  -- rows that the table lacks are put as they are needed, where it has those that are needed in whole
+  lacking_all : (zs : List X) → EachOf (λ z. find (λ x. number x == number z) xs ≡ Some z) zs → (q : X → Bool) →
+      ((x : X) → is_whole x ≡ true → q x ≡ true) → lacking number (map bare zs) (map needed (filter q xs)) ≡ map needed (puts number zs (filter q xs))
+  lacking_all [] h q wide = refl
+  lacking_all (z ∷ zs) h q wide =
+      ap (lacking number (map bare zs)) (lacking_one q wide z h.0)
+      ∙ lacking_all zs h.1 (with_number number xs (number z) q) (λ x w. or_right _ _ (wide x w))
+      ∙ ap (λ t. map needed (puts number zs t))
+      (sym (put_number number xs up (number z) q) ∙ ap (λ rows. puts number rows (filter q xs)) (rows_one number 1 (number z) z xs up h.0))
 
   -- and those of numbers in a row
   bares_put : (ns : List ℕ) (q : X → Bool) → ((x : X) → is_whole x ≡ true → q x ≡ true) →
@@ -213,3 +187,26 @@ needed_authorizations T m a h =
 
     whole : puts of_authorization (whole_authorizations T m a) [] ≡ filter (is_whole_authorization T m a) T.authorizations
     whole = grind (arith, found_table, whole_authorizations_found)
+
+-- ---- tables that lack all of them
+
+-- the authorizations of numbers without challenges, each put once
+bare_loaded : (T : Tables) → IsOrdered T → (numbers : List ℕ) →
+    missings (λ r. r.number) (bare_authorizations T) numbers []
+    ≡ map without_challenges (puts (λ r. r.number) (flat_map (authorizations_numbered T) numbers) [])
+bare_loaded T h numbers =
+    subst (λ rows. missings of_authorization (bare_authorizations T) numbers (map without_challenges rows)
+    ≡ map without_challenges (puts of_authorization (flat_map (authorizations_numbered T) numbers) rows)) (sym (filter_nothing T.authorizations))
+    (bares_put of_authorization without_challenges without_challenges (λ r. refl) (λ r. refl) (λ r. false) (λ r bare. refl) T.authorizations
+    h.authorizations.0 numbers (λ r. false) (λ r whole. whole))
+
+-- those of challenges that wait, without these
+pub bare_working : (T : Tables) → IsOrdered T → (numbers : List ℕ) → AreNumbers numbers (owners_processing T) →
+    missings (λ r. r.number) (bare_authorizations T) numbers [] ≡ map without_challenges (filter has_work T.authorizations)
+bare_working T h numbers are = bare_loaded T h numbers ∙ ap (map without_challenges) (work_loaded T numbers h are)
+
+-- what the orders list that wait for a certificate, without challenges
+pub worked_on : (T : Tables) → IsOrdered T →
+    missings (λ r. r.number) (bare_authorizations T) (flat_map (λ o. numbers_of o.listed) (orders_processing T)) []
+    ≡ map without_challenges (filter (is_worked_on T) T.authorizations)
+worked_on T h = search (rules, bare_loaded, nested, listed_loaded)

@@ -36,14 +36,12 @@ named_missing T a h =
     has_one x = list_any (λ k. bytes_eq x.key k) (keys a) || list_any (λ k. bytes_eq x.key k) (new_keys a)
 
     by_keys : (texts : List (List ℕ)) → IsFound of_account (λ x. list_any (λ k. bytes_eq x.key k) texts) T.accounts (flat_map (accounts_with_key T) texts)
-    by_keys texts =
-        found_by of_account (λ k x. bytes_eq x.key k) (accounts_with_key T) T.accounts
-        (λ k. found_filter of_account (λ x. bytes_eq x.key k) 1 T.accounts h.accounts.0) texts
+    by_keys texts = found_by (λ k. found_filter h.accounts.0) texts
 
     keyed : puts of_account (keyed_accounts T a) [] ≡ filter has_one T.accounts
     keyed =
         found_table of_account has_one 1 T.accounts (keyed_accounts T a) h.accounts.0
-        (found_both of_account _ _ T.accounts _ _ (by_keys (keys a)) (by_keys (new_keys a)))
+        (found_both (by_keys (keys a)) (by_keys (new_keys a)))
 
 -- the accounts of the authorizations that are named, where they are needed, put where they are missing, make the accounts that are enough
 pub holders_missing : (T : Tables) (a : Ask) → IsOrdered T →

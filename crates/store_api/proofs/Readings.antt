@@ -84,9 +84,3 @@ module _ {S C : Type 0} {v : Sight S C} where
     failed = λ honest T held. inl (lacks honest T held);
   }
   reads_of_tables {A} {B} {old} {new} (Err why) r read lacks passed = subst (Reads v old new) (sym passed) (reads_failed_as read)
-
-  -- what was found was read, unless a growth was refused; and its fault is passed on
-  pub reads_found : {A B : Type 0} {old new : S} (found : Result A StorageFault) (r : Result B StorageFault) →
-      Reads v old new found → IfOk found (λ _. IfErr r LacksMemory) → IfErr found (λ why. r ≡ Err why) →
-      Reads v old new r
-  reads_found found r read lacks passed = reads_of_tables found r read (λ honest T held. lacks) passed

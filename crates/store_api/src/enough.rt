@@ -158,6 +158,7 @@ fn enough_book<S: LookUps>(
 /// # Errors
 ///
 /// As of `load_part`.
+#[tactic(auto, using(crate::proofs::Parting::loads_enough))]
 pub fn load_enough<S: LookUps>(
     alloc: Global,
     source: &mut S,

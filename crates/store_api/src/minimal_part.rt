@@ -41,6 +41,7 @@ fn add_missing_account<S: LookUps>(
 }
 
 // Puts the accounts that are named into a table, by their keys, and by number where it lacks them.
+#[tactic(auto, using(crate::proofs::Found::finds_failing, crate::proofs::Gathered::put_then))]
 fn add_named_accounts<S: LookUps>(
     alloc: Global,
     source: &mut S,
@@ -57,6 +58,7 @@ fn add_named_accounts<S: LookUps>(
 }
 
 // Puts the authorizations that are named into a table, and those of these accounts, where an account ends.
+#[tactic(auto, using(crate::proofs::Found::fails_behind, crate::proofs::Found::finds_failing, crate::proofs::Found::finds_third, crate::proofs::Found::listed_as, crate::proofs::Gathered::put_by, crate::proofs::Gathered::put_then))]
 fn add_movable<S: LookUps>(
     alloc: Global,
     source: &mut S,
@@ -130,6 +132,7 @@ fn add_holders<S: LookUps>(
 
 // Puts the authorizations whose statuses may change into a table: those past their moment and, where the ask may change
 // them, those that are named.
+#[tactic(auto, using(crate::proofs::Found::finds_failing, crate::proofs::Gathered::put_then, crate::proofs::MinimalRows::themselves))]
 fn add_restated<S: LookUps>(
     alloc: Global,
     source: &mut S,
@@ -213,6 +216,7 @@ fn add_statuses<S: LookUps>(
 // ---- what leads to nothing more
 
 // Puts the authorizations that are named, and those that a new order asks for, into a table.
+#[tactic(auto, using(crate::proofs::Found::finds_failing, crate::proofs::Gathered::put_then, crate::proofs::MinimalRows::themselves))]
 fn add_wanted<S: LookUps>(
     alloc: Global,
     source: &mut S,

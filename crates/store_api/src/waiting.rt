@@ -40,6 +40,7 @@ fn with_one(row: &AuthorizationRow, challenge: ChallengeRow) -> Result<Authoriza
 }
 
 // Puts a challenge under its authorization, if that is in the table.
+#[tactic(auto, using(crate::proofs::WaitingRows::none_joined, std::proofs::lemmas::Result::on_ok_weaker, crate::proofs::WaitingRows::put_joined))]
 fn nest(
     authorizations: &mut Table<AuthorizationRow>,
     owner: u64,

@@ -22,8 +22,7 @@ among_at n (x ∷ xs) (suc i) h = grind (arith, (among_at n xs i h))
 none_below : (m : ℕ) (xs : List ℕ) → Ascends (λ n. n) m xs → (j : ℕ) → j < length xs → m ≤ get_or xs j 0
 none_below m [] up j within = absurd (omega (arith, within))
 none_below m (x ∷ xs) up zero within = up.0
-none_below m (x ∷ xs) up (suc j) within =
-    let first = up.0 in let later = none_below (x + 1) xs up.1 j (omega (arith, within)) in omega (arith, first, later)
+none_below m (x ∷ xs) up (suc j) within = grind (arith, (none_below (x + 1) xs up.1 j (omega (arith, within))))
 
 -- none is below an earlier one
 none_falls : (m : ℕ) (xs : List ℕ) → Ascends (λ n. n) m xs → (i j : ℕ) → i ≤ j → j < length xs → get_or xs i 0 ≤ get_or xs j 0

@@ -1,13 +1,12 @@
 -- What a sort tells of repeated keys, and when the rows of these keys have different ones.
-use Rattle.std.proofs.Common.{◌≡◌, ℕ, ◌+◌, Bool, true, false, List, [], ◌∷◌, map, get_or, refl, sym, ◌∙◌, subst, arith, Ordering, is_lt, is_eq, nat_cmp, rules}
+use Rattle.std.proofs.Common.{◌≡◌, ℕ, ◌+◌, Bool, true, false, List, [], ◌∷◌, map, get_or, sym, ◌∙◌, subst, arith, Ordering, is_lt, is_eq, nat_cmp, rules}
 use Rattle.std.proofs.lemmas.Map.Keys.{IsDistinct-from_sorted, IsDistinct-IsPermutation, Less-from_sorted, sorted_from_all_adjacent}
 use Rattle.std.proofs.{lemmas.Bool.Decides.nat_tests, lemmas.List.Sorted.IsPermutation-sym}
-use Rattle.std.specs.{Prelude.◌≢◌, Prelude.◌↔◌, Prelude.IsTrue, Cmp.IsTotalOrder, List.AllByRecursion, List.IsAllAdjacentAnswer, List.IsDistinct}
-use Rattle.std.specs.{List.Sorted.IsSorted, List.Sorted.IsStrictlySortedBy, List.Sorted.IsPermutation, Ordering.eq_by_cmp}
-use Rattle.desk_model.specs.Kept.{EachOf}
+use Rattle.std.specs.List.Sorted.{IsSorted, IsStrictlySortedBy, IsPermutation}
+use Rattle.std.specs.{Prelude.◌↔◌, Prelude.IsTrue, Cmp.IsTotalOrder, List.IsAllAdjacentAnswer, List.IsDistinct, Ordering.eq_by_cmp}
 use Rattle.model_laws.specs.Distinct.{Distinct}
 use Rattle.store_book.proofs.SortedLists.{equal_flips, strictly-from_distinct}
-use Rattle.model_laws.proofs.Distinctness.{distinct-map, map-distinct}
+use Rattle.model_laws.proofs.{Distinctness.distinct-map, Distinctness.map-distinct, Basics.each}
 
 -- an order that says less
 less : (r : Ordering) → is_lt r ≡ true → r ≡ Ordering.Less
@@ -33,10 +32,7 @@ not_rising c o (x ∷ xs) h up = grind (arith, (Less-from_sorted c (x ∷ xs) h.
 -- sorted keys tell whether one stands twice
 pub distinct-answer : {X : Type 0} (c : X → X → Ordering) → IsTotalOrder c → (xs ys : List X) → IsPermutation xs ys → IsSorted c ys → (r : Bool) →
     IsAllAdjacentAnswer (λ x y b. b ≡ is_lt (c x y)) ys r → IsTrue r ↔ IsDistinct (eq_by_cmp c) xs
-distinct-answer c o xs ys permuted up true h = (
-  λ _. IsDistinct-IsPermutation (eq_by_cmp c) (equal_flips c o) ys xs (IsPermutation-sym xs ys permuted) (IsDistinct-from_sorted c ys (rising c o ys h)),
-  λ _. refl,
-)
+distinct-answer c o xs ys permuted up true h = search (rules, IsDistinct-IsPermutation, equal_flips, IsPermutation-sym, IsDistinct-from_sorted, rising)
 distinct-answer c o xs ys permuted up false h = (
   λ e. absurd (let clash : false ≡ true = e in cc),
   λ apart. absurd (not_rising c o ys h (strictly-from_distinct c o ys up (IsDistinct-IsPermutation (eq_by_cmp c) (equal_flips c o) xs ys permuted apart))),
@@ -44,31 +40,24 @@ distinct-answer c o xs ys permuted up false h = (
 
 -- ---- from keys to the rows that have them
 
-each-apart : {K Y : Type 0} (e : K → K → Bool) (value : K → Y) → ((k l : K) → value k ≡ value l → e k l ≡ true) → (k : K) (ls : List K) →
-    AllByRecursion (λ l. e k l ≡ false) ls → EachOf (λ l. value k ≢ value l) ls
-each-apart e value equal k [] h = tt
-each-apart e value equal k (l ∷ ls) h =
-    ((λ same. let clash : true ≡ false = sym (equal k l same) ∙ h.0 in cc), each-apart e value equal k ls h.1)
-
-all-apart : {K Y : Type 0} (e : K → K → Bool) (value : K → Y) → ((k l : K) → e k l ≡ true → value k ≡ value l) → (k : K) (ls : List K) →
-    EachOf (λ l. value k ≢ value l) ls → AllByRecursion (λ l. e k l ≡ false) ls
-all-apart e value same k [] h = tt
-all-apart e value same k (l ∷ ls) h = (by (e k l) refl, all-apart e value same k ls h.1)
-  where
-    by : (b : Bool) → e k l ≡ b → b ≡ false
-    by b g = grind arith
-
 distinct-values : {K Y : Type 0} (e : K → K → Bool) (value : K → Y) → ((k l : K) → value k ≡ value l → e k l ≡ true) → (ks : List K)
     → IsDistinct e ks → Distinct value ks
 unfolding IsDistinct
 distinct-values e value equal [] h = tt
-distinct-values e value equal (k ∷ ks) h = (each-apart e value equal k ks h.0, distinct-values e value equal ks h.1)
+distinct-values e value equal (k ∷ ks) h = (
+  each _ _ ks (λ l apart same. absurd (let clash : true ≡ false = sym (equal k l same) ∙ apart in cc)) h.0,
+  distinct-values e value equal ks h.1,
+)
+
+-- a test that does not hold fails
+differ : (b : Bool) → (b ≡ true → ⊥) → b ≡ false
+differ b fails = grind arith
 
 pub values-distinct : {K Y : Type 0} (e : K → K → Bool) (value : K → Y) → ((k l : K) → e k l ≡ true → value k ≡ value l) → (ks : List K)
     → Distinct value ks → IsDistinct e ks
 unfolding IsDistinct
 values-distinct e value same [] h = tt
-values-distinct e value same (k ∷ ks) h = (all-apart e value same k ks h.0, values-distinct e value same ks h.1)
+values-distinct e value same (k ∷ ks) h = (each _ _ ks (λ l apart. differ (e k l) (λ equal. apart (same k l equal))) h.0, values-distinct e value same ks h.1)
 
 -- rows whose keys are these have different ones exactly where no key stands twice
 pub distinct-rows : {K X Y : Type 0} (c : K → K → Ordering) (key : K → Y) (value : X → Y) →

@@ -1,11 +1,11 @@
 -- Rows in the order of their keys are those of a book.
-use Rattle.std.proofs.Common.{◌≡◌, ◌<◌, ◌≤◌, ◌+◌, ℕ, Bool, true, cond, List, [], ◌∷◌, map, filter, refl, sym, ap, subst, arith, nat_cmp}
+use Rattle.std.proofs.Common.{◌≡◌, ◌≤◌, ◌+◌, ℕ, Bool, true, cond, List, [], ◌∷◌, map, filter, refl, sym, ap, subst, arith, nat_cmp, rules}
 use Rattle.std.proofs.lemmas.{List.map-id, Map.Keys.IsDistinct-IsPermutation, List.Sorted.IsPermutation-map, List.Sorted.IsPermutation-refl}
 use Rattle.std.specs.{Prelude.◌==◌, Prelude.IsSome, List.Sorted.IsPermutation, Cmp.nat_cmp_total, Ordering.eq_by_cmp}
-use Rattle.store_columns.specs.Flat.{answer_key, bare_row, challenge_rows, key_rows}
+use Rattle.store_columns.specs.Flat.{bare_row, challenge_rows, key_rows}
 use Rattle.store_columns.specs.Limits.{AreStored, IsStoredAuthorization, IsStoredListed, IsStoredOrder}
 use Rattle.store_columns.specs.declared.columns.{BareChallenge.BareChallenge, FlatRows.FlatRows, Owned.Owned}
-use Rattle.model_laws.specs.{Distinct.Distinct, Ordered.Ascends, Ordered.Below}
+use Rattle.model_laws.specs.{Distinct.Distinct, Ordered.Ascends}
 use Rattle.model_laws.proofs.{Basics.each, Basics.each-map, Basics.each_all, Basics.each_of_map, Distinctness.ascends_distinct, Distinctness.distinct-map}
 use Rattle.model_laws.proofs.{Distinctness.map-distinct, RowLists.ascends_filter, RowLists.ascends_map}
 use Rattle.desk_model.specs.Questions.{account_on, authorization_on}
@@ -110,29 +110,10 @@ module _ (meta : Meta) (rows : FlatRows) (stored : AreStored rows) (are : AreBoo
       are.listed.places)
 
   in_order : AreInOrder T
-  in_order = record {
-    nonces = are.nonces.0;
-    accounts = are.accounts.table.0;
-    authorizations = authorizations_nest.ascends;
-    challenges = authorizations_nest.children_ascend;
-    orders = orders_nest.ascends;
-    places = orders_nest.children_ascend;
-  }
+  in_order = grind (arith, authorizations_nest, orders_nest)
 
   counters : KeepCounters T
-  counters = record {
-    nonces = are.nonces.1;
-    accounts = are.accounts.table.1;
-    authorizations = each-map (λ a. a.number < meta.counters.authorizations + 1) (with_rows (λ (a : AuthorizationRow). a.number) with_challenges whole)
-        rows.authorizations are.authorizations.table.1;
-    challenges = each-map (λ a. Below (λ c. c.number) (meta.counters.challenges + 1) a.challenges)
-        (with_rows (λ (a : AuthorizationRow). a.number) with_challenges whole) rows.authorizations
-        (each_all (λ a. Below (λ c. c.number) (meta.counters.challenges + 1) (rows_of a.number whole)) rows.authorizations
-        (λ a. each_of_owner (λ c. c.number < meta.counters.challenges + 1) a.number whole
-        (each_whole (λ c. c.row.number < meta.counters.challenges + 1) are.challenges.table.1)));
-    orders = each-map (λ o. o.number < meta.counters.orders + 1) (with_rows (λ (o : OrderRow). o.number) with_listed rows.listed)
-        rows.orders are.orders.table.1;
-  }
+  counters = search (rules, each-map, with_rows, each_all, rows_of, each_of_owner, each_whole)
 
   -- an authorization whose number is among theirs is found
   authorization_found : (n : ℕ) → IsAmong (map (λ a. a.number) rows.authorizations) n → IsSome (authorization_on T n)
@@ -171,21 +152,8 @@ module _ (meta : Meta) (rows : FlatRows) (stored : AreStored rows) (are : AreBoo
   }
 
   pub book : IsBookOf rows T
-  book = record {
-    is_book = record { in_order = in_order; sound = record { counters = counters; references = references; distinct = distinct } };
-    has_rows = record {
-      metas = subst (IsPermutation rows.metas) are.metas (IsPermutation-refl rows.metas);
-      nonces = IsPermutation-refl rows.nonces;
-      accounts = IsPermutation-refl rows.accounts;
-      orders = orders_nest.parents_are;
-      authorizations = authorizations_nest.parents_are;
-      listed = orders_nest.rows_are;
-      challenges = subst (λ l. IsPermutation l (map bare_row (challenge_rows T.authorizations))) has.0
-          (IsPermutation-map bare_row whole (challenge_rows T.authorizations) authorizations_nest.rows_are);
-      keys = subst (λ l. IsPermutation l (key_rows (challenge_rows T.authorizations))) has.1
-          (picked-permutation (λ (c : Owned ChallengeRow). answer_key c.row) whole (challenge_rows T.authorizations) authorizations_nest.rows_are);
-    };
-  }
+  book =
+      grind (arith, in_order, counters, references, distinct, IsPermutation-refl, orders_nest, authorizations_nest, has, IsPermutation-map, picked-permutation)
 
 -- such rows in their limits are those of a book
 pub rows_are_books : RowsAreBooks

@@ -1,14 +1,14 @@
 -- Challenges joined with the keys of their answers have these rows, and no others have.
-use Rattle.std.proofs.Common.{◌≡◌, ◌≢◌, ◌⊎◌, inl, inr, ℕ, List, [], ◌∷◌, map, Option, Some, None, refl, sym, ap, subst, ◌∙◌, arith}
-use Rattle.std.proofs.lemmas.List.Sorted.{All-permutation, IsPermutation-sym, IsPermutation-trans}
-use Rattle.std.proofs.lemmas.List.Elements.{All-from_recursion, recursion_from_All}
+use Rattle.std.proofs.Common.{◌≡◌, ◌≢◌, ℕ, List, [], ◌∷◌, map, Option, Some, None, refl, sym, ap, subst, ◌∙◌, arith, cond}
+use Rattle.std.proofs.{lemmas.List.Sorted.IsPermutation-sym, lemmas.List.Sorted.IsPermutation-trans, lemmas.Bool.eq-eqb, lemmas.Bool.ne_eqb}
 use Rattle.desk_model.specs.{Kept.EachOf, declared.objects.Answer.Answer, declared.rows.ChallengeRow.ChallengeRow}
-use Rattle.std.specs.{List.AllByRecursion, List.cons_option, List.Sorted.IsPermutation}
-use Rattle.store_columns.specs.Flat.{answer_key, bare_row, key_rows}
-use Rattle.store_columns.specs.declared.columns.{AnswerKey.AnswerKey, BareChallenge.BareChallenge, Owned.Owned}
+use Rattle.std.specs.{List.cons_option, List.Sorted.IsPermutation, Prelude.◌==◌, Prelude.find}
+use Rattle.store_columns.specs.{Flat.answer_key, Flat.bare_row, Flat.key_rows, declared.columns.AnswerKey.AnswerKey}
+use Rattle.store_columns.specs.{declared.columns.BareChallenge.BareChallenge, declared.columns.Owned.Owned}
 use Rattle.model_laws.specs.Distinct.{Distinct}
 use Rattle.store_book.specs.{BookRows.AreKeys, BookRows.answered_numbers, Joining.joined}
-use Rattle.store_book.proofs.{KeyedRows.key_numbers, SortedLists.or_passes, Swapped.lifted, Swapped.picked-permutation}
+use Rattle.store_book.proofs.{KeyedRows.key_numbers, KeyedRows.each_moved, Swapped.lifted, Swapped.picked-permutation}
+use Rattle.model_laws.proofs.Basics.{each, each_both}
 
 -- the number of a challenge
 abbrev number : Owned ChallengeRow → ℕ
@@ -32,49 +32,26 @@ joined_has (c ∷ cs) ks same = grind (arith, (joined_has cs))
 
 -- ---- no other challenges have the same rows
 
--- a number that differs from those of rows differs from those of others with the same numbers
-apart_as : {X : Type 0} (key : X → ℕ) (n : ℕ) (xs ys : List X) → map key xs ≡ map key ys → EachOf (λ z. n ≢ key z) ys → EachOf (λ z. n ≢ key z) xs
-apart_as key n [] ys same h = tt
-apart_as key n (x ∷ xs) [] same h = absurd (cc same)
-apart_as key n (x ∷ xs) (y ∷ ys) same h =
-    let first : key x ≡ key y = cc same in
-    let rest : map key xs ≡ map key ys = cc same in
-    ((λ e. h.0 (e ∙ first)), apart_as key n xs ys rest h.1)
-
--- the first of them, or not its number
-first_or_apart : {X : Type 0} (key : X → ℕ) (y : X) (ys : List X) → EachOf (λ z. key y ≢ key z) ys → AllByRecursion (λ z. (z ≡ y) ⊎ (key y ≢ key z)) ys
-first_or_apart key y [] h = tt
-first_or_apart key y (z ∷ zs) h = (inr h.0, first_or_apart key y zs h.1)
-
--- passes, where its number is another
-not_that : {X : Type 0} (key : X → ℕ) (P : X → Type 0) (y : X) (xs : List X) → EachOf (λ z. key y ≢ key z) xs → AllByRecursion (λ z. (z ≡ y) ⊎ P z) xs
-    → AllByRecursion P xs
-not_that key P y [] apart h = tt
-not_that key P y (x ∷ xs) apart h = (
-  elim h.0 [ inl same ↦ absurd (apart.0 (sym (ap key same))) | inr here ↦ here ],
-  not_that key P y xs apart.1 h.1,
+-- of rows that differ in number each is found by its own
+found_by_number : {X : Type 0} (key : X → ℕ) (ys : List X) → Distinct key ys → EachOf (λ y. find (λ z. key z == key y) ys ≡ Some y) ys
+found_by_number key [] distinct = tt
+found_by_number key (y ∷ ys) distinct = (
+  ap (λ b. cond b (Some y) (find (λ z. key z == key y) ys)) (eq-eqb (key y) (key y) refl),
+  each _ _ ys (λ z both. ap (λ b. cond b (Some y) (find (λ w. key w == key z) ys)) (ne_eqb (key y) (key z) both.0) ∙ both.1)
+      (each_both _ _ ys distinct.0 (found_by_number key ys distinct.1)),
 )
 
--- rows of the same numbers, none twice, among others are these
-same_numbered : {X : Type 0} (key : X → ℕ) (xs ys : List X) → ((P : X → Type 0) → AllByRecursion P ys → AllByRecursion P xs)
-    → map key xs ≡ map key ys → Distinct key ys → xs ≡ ys
-same_numbered key [] [] among same distinct = refl
-same_numbered key [] (y ∷ ys) among same distinct = absurd (cc same)
-same_numbered key (x ∷ xs) [] among same distinct = absurd (cc same)
-same_numbered {X} key (x ∷ xs) (y ∷ ys) among same distinct =
-    ap (λ z. z ∷ xs) first ∙ ap (λ l. y ∷ l) (same_numbered key xs ys tails rest distinct.1)
-  where
-    rest : map key xs ≡ map key ys
-    rest = cc same
-
-    first : x ≡ y
-    first = elim (among (λ z. (z ≡ y) ⊎ (key y ≢ key z)) (inl refl, first_or_apart key y ys distinct.0)).0 [
-      | inl is ↦ is
-      | inr apart ↦ absurd (apart (let e : key x ≡ key y = cc same in sym e))
-    ]
-
-    tails : (P : X → Type 0) → AllByRecursion P ys → AllByRecursion P xs
-    tails P h = not_that key P y xs (apart_as key (key y) xs ys rest distinct.0) ((among (λ z. (z ≡ y) ⊎ P z) (inl refl, or_passes P y ys h)).1)
+-- rows of the same numbers, each of which is found by it among the same rows, are equal
+same_numbered : {X : Type 0} (key : X → ℕ) (all xs ys : List X) → EachOf (λ x. find (λ z. key z == key x) all ≡ Some x) xs
+    → EachOf (λ y. find (λ z. key z == key y) all ≡ Some y) ys → map key xs ≡ map key ys → xs ≡ ys
+same_numbered key all [] [] found also same = refl
+same_numbered key all [] (y ∷ ys) found also same = absurd (cc same)
+same_numbered key all (x ∷ xs) [] found also same = absurd (cc same)
+same_numbered key all (x ∷ xs) (y ∷ ys) found also same =
+    let numbers : key x ≡ key y = cc same in
+    let rest : map key xs ≡ map key ys = cc same in
+    let first : x ≡ y = cc (sym found.0 ∙ ap (λ n. find (λ z. key z == n) all) numbers ∙ also.0) in
+    λ i. first i ∷ same_numbered key all xs ys found.1 also.1 rest i
 
 -- keys of challenges that differ in number do so, too
 keys_distinct : (cs : List (Owned ChallengeRow)) → Distinct number cs → Distinct (λ k. k.challenge) (key_rows cs)
@@ -102,9 +79,9 @@ same_rows ones others apart bare keys =
     let own : IsPermutation (key_rows ones) (key_rows it.0) =
     IsPermutation-trans (key_rows ones) (key_rows others) (key_rows it.0) (IsPermutation-sym (key_rows others) (key_rows ones) keys)
     (picked-permutation (λ (c : Owned ChallengeRow). answer_key c.row) others it.0 it.1) in
+    let found = found_by_number (λ (k : AnswerKey). k.challenge) (key_rows ones) (keys_distinct ones apart) in
     let keys_same : key_rows it.0 ≡ key_rows ones =
-    same_numbered (λ (k : AnswerKey). k.challenge) (key_rows it.0) (key_rows ones)
-    (λ P h. recursion_from_All P (key_rows it.0) (All-permutation P (key_rows ones) (key_rows it.0) own (All-from_recursion P (key_rows ones) h)))
-    (key_numbers it.0 ∙ ap answered_numbers it.2 ∙ sym (key_numbers ones)) (keys_distinct ones apart) in
+    same_numbered (λ (k : AnswerKey). k.challenge) (key_rows ones) (key_rows it.0) (key_rows ones)
+    (each_moved _ (key_rows ones) (key_rows it.0) own found) found (key_numbers it.0 ∙ ap answered_numbers it.2 ∙ sym (key_numbers ones)) in
     let same : it.0 ≡ ones = sym (joined_back it.0) ∙ (λ i. joined (it.2 i) (keys_same i)) ∙ joined_back ones in
     subst (λ l. IsPermutation l others) same (IsPermutation-sym others it.0 it.1)

@@ -1,34 +1,24 @@
 -- The rows of a book that stand by key keep their counters and find what they refer to.
-use Rattle.std.proofs.Common.{◌≡◌, ◌<◌, ◌≤◌, ◌+◌, ℕ, List, [], ◌∷◌, map, All, refl, sym, ap, subst, ◌∙◌, arith, rules}
-use Rattle.std.proofs.lemmas.{List.Elements.All-cons, List.Elements.All-head, List.Elements.All-nil, List.Elements.All-tail, List.Sorted.All-permutation}
-use Rattle.std.proofs.lemmas.{List.Sorted.IsPermutation-map, List.Sorted.IsPermutation-sym, List.Sorted.IsPermutation-trans, Simd.map-map}
+use Rattle.std.proofs.Common.{◌≡◌, ◌<◌, ◌≤◌, ◌+◌, ℕ, List, [], ◌∷◌, map, refl, sym, ap, subst, ◌∙◌, arith, rules}
+use Rattle.std.proofs.lemmas.List.Sorted.{All-permutation, IsPermutation-map, IsPermutation-sym, IsPermutation-trans}
+use Rattle.std.proofs.{lemmas.Simd.map-map, lemmas.List.Elements.All-from_recursion, lemmas.List.Elements.recursion_from_All}
 use Rattle.std.specs.{Prelude.◌==◌, Prelude.find, Prelude.IsSome, List.flat_map, List.Sorted.IsPermutation}
 use Rattle.store_columns.specs.Flat.{bare_row, challenge_rows, key_rows, listed_rows, owned_by, without_challenges, without_listed}
-use Rattle.store_columns.specs.declared.columns.{AnswerKey.AnswerKey, BareChallenge.BareChallenge, FlatRows.FlatRows, Owned.Owned}
+use Rattle.store_columns.specs.{declared.columns.AnswerKey.AnswerKey, declared.columns.BareChallenge.BareChallenge, declared.columns.FlatRows.FlatRows}
+use Rattle.store_columns.specs.declared.columns.Owned.{Owned}
 use Rattle.model_laws.specs.Ordered.{Ascends, IsTable}
 use Rattle.model_laws.proofs.Basics.{each, each-append, each-map, each_all, find-map}
 use Rattle.model_laws.proofs.RowLists.{ascends_found, ascends_from, ascends_map}
-use Rattle.desk_model.specs.Questions.{account_on, authorization_on}
-use Rattle.desk_model.specs.{Kept.EachOf, Tables.Tables, declared.rows.AccountRow.AccountRow, declared.rows.AuthorizationRow.AuthorizationRow}
+use Rattle.desk_model.specs.{Questions.account_on, Questions.authorization_on, Kept.EachOf, Tables.Tables, declared.rows.AuthorizationRow.AuthorizationRow}
 use Rattle.desk_model.specs.{declared.rows.ChallengeRow.ChallengeRow, declared.rows.Listed.Listed, declared.rows.OrderRow.OrderRow}
 use Rattle.store_book.specs.BookRows.{AreAccounts, AreAuthorizations, AreBookRows, AreChallenges, AreListed, AreOrders, IsAmong, PlacesRise, answered_number}
 use Rattle.store_book.specs.BookRows.{answered_numbers}
 use Rattle.store_book.specs.{ByKey.AreByKey, ByKey.BooksHaveRows, IsBook.IsBookOf, Passing.IsPlacedNext, Passing.PlacedFrom}
 use Rattle.store_book.proofs.{OrderedRows.same_ascending, SortedLists.same_single, Swapped.picked-permutation}
 
--- ---- what holds of rows in some order
-
-each_of : {X : Type 0} (P : X → Type 0) (xs : List X) → All P xs → EachOf P xs
-each_of P [] all = tt
-each_of P (x ∷ xs) all = (All-head P x xs all, each_of P xs (All-tail P x xs all))
-
-all_of : {X : Type 0} (P : X → Type 0) (xs : List X) → EachOf P xs → All P xs
-all_of P [] h = All-nil P
-all_of P (x ∷ xs) h = All-cons P x xs h.0 (all_of P xs h.1)
-
--- holds of them in any other
+-- what holds of rows in some order holds of them in any other
 pub each_moved : {X : Type 0} (P : X → Type 0) (xs ys : List X) → IsPermutation xs ys → EachOf P xs → EachOf P ys
-each_moved P xs ys permuted h = each_of P ys (All-permutation P xs ys permuted (all_of P xs h))
+each_moved P xs ys permuted h = recursion_from_All P ys (All-permutation P xs ys permuted (All-from_recursion P xs h))
 
 -- ---- numbers
 
@@ -56,9 +46,7 @@ all_among number n xs up = search (rules, each, among_found, ascends_found)
 each_child : {P T : Type 0} (number : P → ℕ) (children : P → List T) (Q : Owned T → Type 0) (ps : List P)
     → EachOf (λ p. EachOf (λ t. Q (record { owner = number p; row = t })) (children p)) ps → EachOf Q (flat_map (λ p. owned_by (number p) (children p)) ps)
 each_child number children Q [] h = tt
-each_child number children Q (p ∷ ps) h =
-    each-append Q (owned_by (number p) (children p)) (flat_map (λ p. owned_by (number p) (children p)) ps)
-    (each-map Q (λ t. record { owner = number p; row = t }) (children p) h.0) (each_child number children Q ps h.1)
+each_child number children Q (p ∷ ps) h = search (rules, each-append, each-map, (each_child number children Q ps h.1))
 
 -- what comes behind a place of a later order is of a later one
 later : (n order place : ℕ) (s : Owned Listed) → n < order → IsPlacedNext order place s.owner s.row.place → n < s.owner
@@ -66,9 +54,7 @@ later n order place s h k = search rules
 
 past : (n k order place : ℕ) (rows : List (Owned Listed)) → n < order → PlacedFrom order place rows → EachOf (λ s. s.owner ≡ n → k < s.row.place) rows
 past n k order place [] low placed = tt
-past n k order place (s ∷ rows) low placed =
-    let next = later n order place s low placed.0 in
-    (λ same. absurd (omega (arith, next, same)), past n k s.owner s.row.place rows next placed.1)
+past n k order place (s ∷ rows) low placed = grind (arith, later, (past n k s.owner s.row.place rows (later n order place s low placed.0) placed.1))
 
 -- and behind a place of an order each of it is later
 behind : (n k place : ℕ) (rows : List (Owned Listed)) → k ≤ place → PlacedFrom n place rows → EachOf (λ s. s.owner ≡ n → k < s.row.place) rows
@@ -84,8 +70,7 @@ behind n k place (s ∷ rows) low placed =
 -- places that come one behind the other rise
 places_rise : (order place : ℕ) (rows : List (Owned Listed)) → PlacedFrom order place rows → PlacesRise rows
 places_rise order place [] placed = tt
-places_rise order place (r ∷ rows) placed =
-    (behind r.owner r.row.place r.row.place rows (omega arith) placed.1, places_rise r.owner r.row.place rows placed.1)
+places_rise order place (r ∷ rows) placed = grind (arith, behind, (places_rise r.owner r.row.place rows placed.1))
 
 -- ---- challenges that were answered
 
@@ -103,8 +88,7 @@ key_numbers (c ∷ cs) = grind (arith, (key_numbers cs))
 
 module _ (rows : FlatRows) (T : Tables) (book : IsBookOf rows T) (by_key : AreByKey rows) where
   accounts_same : rows.accounts ≡ T.accounts
-  accounts_same =
-      same_ascending (λ a. a.number) 0 1 rows.accounts T.accounts by_key.accounts book.is_book.in_order.accounts book.has_rows.accounts
+  accounts_same = grind (arith, same_ascending)
 
   orders_up : Ascends (λ o. o.number) 1 (map without_listed T.orders)
   orders_up = ascends_map (λ o. o.number) (λ o. o.number) without_listed (λ o. refl) 1 T.orders book.is_book.in_order.orders
@@ -113,18 +97,14 @@ module _ (rows : FlatRows) (T : Tables) (book : IsBookOf rows T) (by_key : AreBy
   orders_same = same_ascending (λ o. o.number) 0 1 rows.orders (map without_listed T.orders) by_key.orders orders_up book.has_rows.orders
 
   authorizations_up : Ascends (λ a. a.number) 1 (map without_challenges T.authorizations)
-  authorizations_up =
-      ascends_map (λ a. a.number) (λ a. a.number) without_challenges (λ a. refl) 1 T.authorizations book.is_book.in_order.authorizations
+  authorizations_up = grind (arith, ascends_map)
 
   authorizations_same : rows.authorizations ≡ map without_challenges T.authorizations
-  authorizations_same =
-      same_ascending (λ a. a.number) 0 1 rows.authorizations (map without_challenges T.authorizations) by_key.authorizations authorizations_up
-      book.has_rows.authorizations
+  authorizations_same = grind (arith, same_ascending, authorizations_up)
 
   -- an account that is found is among those that were shown
   account_among : (n : ℕ) → IsSome (account_on T n) → IsAmong (map (λ a. a.number) rows.accounts) n
-  account_among n found =
-      subst (λ l. IsAmong (map (λ (a : AccountRow). a.number) l) n) (sym accounts_same) (among_found (λ (a : AccountRow). a.number) n T.accounts found)
+  account_among n found = grind (arith, accounts_same, among_found)
 
   -- so it is of orders
   order_numbers : map (λ o. o.number) rows.orders ≡ map (λ o. o.number) T.orders
@@ -135,27 +115,13 @@ module _ (rows : FlatRows) (T : Tables) (book : IsBookOf rows T) (by_key : AreBy
   authorization_numbers = ap (map (λ a. a.number)) authorizations_same ∙ map-map (λ (a : AuthorizationRow). a.number) without_challenges T.authorizations
 
   authorization_among : (n : ℕ) → IsSome (authorization_on T n) → IsAmong (map (λ a. a.number) rows.authorizations) n
-  authorization_among n found =
-      subst (λ ns. IsAmong ns n) (sym authorization_numbers) (among_found (λ (a : AuthorizationRow). a.number) n T.authorizations found)
+  authorization_among n found = grind (arith, authorization_numbers, among_found)
 
   orders_are : AreOrders T.meta.counters.orders (map (λ a. a.number) rows.accounts) rows.orders
-  orders_are = subst (AreOrders T.meta.counters.orders (map (λ a. a.number) rows.accounts)) (sym orders_same) (record {
-    table = (orders_up, each-map (λ o. o.number < T.meta.counters.orders + 1) without_listed T.orders book.is_book.sound.counters.orders);
-    accounts_found = each-map (λ o. IsAmong (map (λ a. a.number) rows.accounts) o.account) without_listed T.orders
-        (each (λ o. IsSome (account_on T o.account)) (λ o. IsAmong (map (λ a. a.number) rows.accounts) o.account) T.orders
-        (λ o found. account_among o.account found) book.is_book.sound.references.orders);
-  })
+  orders_are = search (rules, orders_same, orders_up, each-map, each, account_among)
 
   authorizations_are : AreAuthorizations T.meta.counters.authorizations (map (λ a. a.number) rows.accounts) rows.authorizations
-  authorizations_are = subst (AreAuthorizations T.meta.counters.authorizations (map (λ a. a.number) rows.accounts)) (sym authorizations_same) (record {
-    table = (
-      authorizations_up,
-      each-map (λ a. a.number < T.meta.counters.authorizations + 1) without_challenges T.authorizations book.is_book.sound.counters.authorizations,
-    );
-    accounts_found = each-map (λ a. IsAmong (map (λ a. a.number) rows.accounts) a.account) without_challenges T.authorizations
-        (each (λ a. IsSome (account_on T a.account)) (λ a. IsAmong (map (λ a. a.number) rows.accounts) a.account) T.authorizations
-        (λ a found. account_among a.account found) book.is_book.sound.references.authorizations);
-  })
+  authorizations_are = search (rules, authorizations_same, authorizations_up, each-map, each, account_among)
 
   -- what holds of each that an order lists holds of all that was shown
   each_listed : (Q : Owned Listed → Type 0) → EachOf (λ o. EachOf (λ l. Q (record { owner = o.number; row = l })) o.listed) T.orders → EachOf Q rows.listed
@@ -164,19 +130,7 @@ module _ (rows : FlatRows) (T : Tables) (book : IsBookOf rows T) (by_key : AreBy
       (each_child (λ (o : OrderRow). o.number) (λ o. o.listed) Q T.orders h)
 
   listed_are : AreListed (map (λ o. o.number) rows.orders) (map (λ a. a.number) rows.authorizations) rows.listed
-  listed_are = record {
-    places = places_rise 0 0 rows.listed by_key.listed;
-    orders_found = each_listed (λ l. IsAmong (map (λ o. o.number) rows.orders) l.owner)
-        (each (λ o. IsAmong (map (λ o. o.number) T.orders) o.number) (λ o. EachOf (λ _. IsAmong (map (λ o. o.number) rows.orders) o.number) o.listed) T.orders
-        (λ o among. each_all (λ _. IsAmong (map (λ o. o.number) rows.orders) o.number) o.listed
-        (λ _. subst (λ ns. IsAmong ns o.number) (sym order_numbers) among))
-        (all_among (λ (o : OrderRow). o.number) 1 T.orders book.is_book.in_order.orders));
-    authorizations_found = each_listed (λ l. IsAmong (map (λ a. a.number) rows.authorizations) l.row.authorization)
-        (each (λ o. EachOf (λ l. IsSome (authorization_on T l.authorization)) o.listed)
-        (λ o. EachOf (λ l. IsAmong (map (λ a. a.number) rows.authorizations) l.authorization) o.listed) T.orders
-        (λ o found. each (λ l. IsSome (authorization_on T l.authorization)) (λ l. IsAmong (map (λ a. a.number) rows.authorizations) l.authorization) o.listed
-        (λ l. authorization_among l.authorization) found) book.is_book.sound.references.listed);
-  }
+  listed_are = search (rules, places_rise, each_listed, each, each_all, order_numbers, all_among, authorization_among)
 
   -- so it is of challenges
   each_challenge : (Q : Owned BareChallenge → Type 0)

@@ -1,5 +1,5 @@
 -- Rows that stand by number rise strictly, and so do their children by owner and number.
-use Rattle.std.proofs.Common.{◌≡◌, ℕ, ◌+◌, ◌<◌, ◌≤◌, List, [], ◌∷◌, ◌++◌, nat_cmp, ap, ◌∙◌, arith, Ordering, rules}
+use Rattle.std.proofs.Common.{◌≡◌, ℕ, ◌+◌, ◌<◌, List, [], ◌∷◌, ◌++◌, nat_cmp, ap, arith, Ordering, rules}
 use Rattle.std.proofs.lemmas.Bool.Decides.{nat_tests}
 use Rattle.std.specs.Cmp.{IsTotalOrder, nat_cmp_total, on_total, then_total}
 use Rattle.std.specs.{List.AllByRecursion, Ordering.ordering_then, List.Sorted.IsStrictlySortedBy, List.Sorted.IsPermutation}
@@ -8,6 +8,7 @@ use Rattle.model_laws.specs.Ordered.{Ascends}
 use Rattle.store_columns.specs.Flat.{owned_by}
 use Rattle.store_book.specs.Nesting.{by_number, by_owner, child_rows}
 use Rattle.store_book.proofs.SortedLists.{same_strictly}
+use Rattle.model_laws.proofs.Basics.{each-append}
 
 by_number-total : {X : Type 0} (number : X → ℕ) → IsTotalOrder (by_number number)
 by_number-total number = on_total number nat_cmp_total
@@ -25,27 +26,20 @@ equal_at n = grind (arith, nat_tests)
 above_from_ascends : {X : Type 0} (number : X → ℕ) (k n : ℕ) (xs : List X) → k < n → Ascends number n xs
     → AllByRecursion (λ y. nat_cmp k (number y) ≡ Ordering.Less) xs
 above_from_ascends number k n [] lt h = tt
-above_from_ascends number k n (x ∷ xs) lt h =
-    let first : n ≤ number x = h.0 in
-    (less_at k (number x) (omega arith), above_from_ascends number k (number x + 1) xs (omega arith) h.1)
+above_from_ascends number k n (x ∷ xs) lt h = grind (arith, less_at, (above_from_ascends number k (number x + 1) xs (omega arith) h.1))
 
 -- rows by number rise strictly
 strictly-from_ascends : {X : Type 0} (number : X → ℕ) (n : ℕ) (xs : List X) → Ascends number n xs → IsStrictlySortedBy (by_number number) xs
 unfolding IsStrictlySortedBy
 strictly-from_ascends number n [] h = tt
-strictly-from_ascends number n (x ∷ xs) h =
-    (above_from_ascends number (number x) (number x + 1) xs (omega arith) h.1, strictly-from_ascends number (number x + 1) xs h.1)
-
-all-append : {X : Type 0} (P : X → Type 0) (xs ys : List X) → AllByRecursion P xs → AllByRecursion P ys → AllByRecursion P (xs ++ ys)
-all-append P [] ys h k = k
-all-append P (x ∷ xs) ys h k = (h.0, all-append P xs ys h.1 k)
+strictly-from_ascends number n (x ∷ xs) h = grind (arith, above_from_ascends, (strictly-from_ascends number (number x + 1) xs h.1))
 
 -- what rises strictly, before what is above it
 strictly-append : {X : Type 0} (c : X → X → Ordering) (xs ys : List X) → IsStrictlySortedBy c xs → IsStrictlySortedBy c ys →
     AllByRecursion (λ x. AllByRecursion (λ y. c x y ≡ Ordering.Less) ys) xs → IsStrictlySortedBy c (xs ++ ys)
 unfolding IsStrictlySortedBy
 strictly-append c [] ys up down h = down
-strictly-append c (x ∷ xs) ys up down h = (all-append _ xs ys up.0 h.0, strictly-append c xs ys up.1 down h.1)
+strictly-append c (x ∷ xs) ys up down h = (each-append _ xs ys up.0 h.0, strictly-append c xs ys up.1 down h.1)
 
 -- children from a higher owner on are above one of a lower owner
 above_owner : {T : Type 0} (number : T → ℕ) (k : ℕ) (t : T) (n : ℕ) (us : List T) → k < n
@@ -57,7 +51,7 @@ above_owners : {P T : Type 0} (number : P → ℕ) (children : P → List T) (ch
     → Ascends number n ps →
     AllByRecursion (λ y. by_owner child_number (record { owner = k; row = t }) y ≡ Ordering.Less) (child_rows number children ps)
 above_owners number children child_number k t n [] lt h = tt
-above_owners number children child_number k t n (p ∷ ps) lt h = grind (arith, all-append, (above_owners number children child_number k t (number p + 1) ps (omega arith) h.1), (above_owner child_number k t (number p) (children p) (omega arith)))
+above_owners number children child_number k t n (p ∷ ps) lt h = grind (arith, each-append, (above_owners number children child_number k t (number p + 1) ps (omega arith) h.1), (above_owner child_number k t (number p) (children p) (omega arith)))
 
 all_above_owners : {P T : Type 0} (number : P → ℕ) (children : P → List T) (child_number : T → ℕ) (k : ℕ) (ts : List T) (n : ℕ)
     (ps : List P) → k < n → Ascends number n ps →
@@ -69,11 +63,7 @@ all_above_owners number children child_number k (t ∷ ts) n ps lt h =
 above_sibling : {T : Type 0} (number : T → ℕ) (k : ℕ) (t : T) (n : ℕ) (us : List T) → number t < n → Ascends number n us →
     AllByRecursion (λ y. by_owner number (record { owner = k; row = t }) y ≡ Ordering.Less) (owned_by k us)
 above_sibling number k t n [] lt h = tt
-above_sibling number k t n (u ∷ us) lt h =
-    let first : n ≤ number u = h.0 in (
-      ap (λ o. ordering_then o (nat_cmp (number t) (number u))) (equal_at k) ∙ less_at (number t) (number u) (omega arith),
-      above_sibling number k t (number u + 1) us (omega arith) h.1,
-    )
+above_sibling number k t n (u ∷ us) lt h = grind (arith, equal_at, less_at, (above_sibling number k t (number u + 1) us (omega arith) h.1))
 
 -- the children of one row, by number
 strictly-siblings : {T : Type 0} (number : T → ℕ) (k n : ℕ) (ts : List T) → Ascends number n ts → IsStrictlySortedBy (by_owner number) (owned_by k ts)

@@ -1,7 +1,6 @@
 -- Loops over a slice: what is left of it, by one more row, and nothing at the end.
 use Rattle.std.proofs.Common.{◌≡◌, ◌≤◌, ◌<◌, ◌+◌, ℕ, List, [], ◌∷◌, ◌++◌, length, take, drop, get_or, sym, ap, ◌∙◌, append_assoc, append-nil, arith, rules}
 use Rattle.std.proofs.lemmas.List.{at_drop_all, at_drop_more, take-append-drop}
-use Rattle.desk_model.specs.{Derived.numbers_of, Derived.stored_statuses, declared.rows.AuthorizationRow.AuthorizationRow, declared.rows.Listed.Listed}
 
 -- what one row gives, and what is left
 pub slice-step : {X Y : Type 0} (all_of : List X → List Y) (one_of : X → List Y) →
@@ -19,16 +18,7 @@ slice-end all_of none xs index done whole all kept = sym (ap (λ l. done ++ l) (
 pub one-more : {X : Type 0} (xs : List X) (index : ℕ) (d : X) → index < length xs → drop index xs ≡ get_or xs index d ∷ drop (index + 1) xs
 one-more xs index d more = at_drop_more (λ l. l) xs index d more
 
--- or nothing
-pub none-left : {X : Type 0} (xs : List X) (index : ℕ) → length xs ≤ index → drop index xs ≡ []
-none-left xs index all = at_drop_all (λ l. l) xs index all
-
 -- a row of a slice stands between those before it and those behind it
 pub row-among : {X : Type 0} (xs : List X) (index : ℕ) (d row : X) → index < length xs → row ≡ get_or xs index d
     → take index xs ++ row ∷ drop (index + 1) xs ≡ xs
 row-among xs index d row more is = search (rules, one-more, take-append-drop)
-
--- the stored status of what is listed first, and those of the rest
-pub statuses-by_row : (rows : List AuthorizationRow) (l : Listed) (rest : List Listed) →
-    stored_statuses rows (l.authorization ∷ []) ++ stored_statuses rows (numbers_of rest) ≡ stored_statuses rows (numbers_of (l ∷ rest))
-statuses-by_row rows l rest = search rules

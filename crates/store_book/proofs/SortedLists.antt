@@ -6,6 +6,8 @@ use Rattle.std.proofs.lemmas.Map.Keys.{IsDistinct-from_sorted, IsDistinct-IsPerm
 use Rattle.std.proofs.lemmas.Map.Keys.{sorted_tail}
 use Rattle.std.specs.List.Sorted.{IsSorted, IsStrictlySortedBy, IsPermutation}
 use Rattle.std.specs.{Cmp.IsTotalOrder, List.AllByRecursion, List.IsDistinct, Ordering.eq_by_cmp, Ordering.ordering_reverse}
+use Rattle.model_laws.proofs.Basics.{each, each_both}
+use Rattle.desk_model.specs.Kept.{EachOf}
 
 -- no element is below itself
 irreflexive : {X : Type 0} (c : X → X → Ordering) → IsTotalOrder c → (x : X) → c x x ≡ Ordering.Less → ⊥
@@ -34,25 +36,11 @@ pub strictly-from_other : {X : Type 0} (c : X → X → Ordering) → IsTotalOrd
     IsPermutation xs ys → IsStrictlySortedBy c xs
 strictly-from_other c o xs ys up rises permuted = search (rules, strictly-from_distinct, IsDistinct-IsPermutation, equal_flips, IsPermutation-sym, IsDistinct-from_sorted)
 
--- each of these elements is this one or above
-first_or_above : {X : Type 0} (c : X → X → Ordering) (x : X) (xs : List X) → AllByRecursion (λ y. c x y ≡ Ordering.Less) xs →
-    AllByRecursion (λ y. (y ≡ x) ⊎ (c x y ≡ Ordering.Less)) xs
-first_or_above c x [] h = tt
-first_or_above c x (y ∷ ys) h = (inr h.0, first_or_above c x ys h.1)
-
 -- what holds of an element or is equal to a lower one holds
-not_first : {X : Type 0} (c : X → X → Ordering) → IsTotalOrder c → (P : X → Type 0) (x : X) (xs : List X) → AllByRecursion (λ y. c x y ≡ Ordering.Less) xs →
-    AllByRecursion (λ y. (y ≡ x) ⊎ P y) xs → AllByRecursion P xs
-not_first c o P x [] above h = tt
-not_first {X} c o P x (y ∷ ys) above h = (
-  elim h.0 [ inl same ↦ absurd (irreflexive c o x (ap (λ z. c x z) (sym same) ∙ above.0)) | inr here ↦ here ],
-  not_first c o P x ys above.1 h.1,
-)
-
--- each of these is that one, or passes
-pub or_passes : {X : Type 0} (P : X → Type 0) (x : X) (xs : List X) → AllByRecursion P xs → AllByRecursion (λ y. (y ≡ x) ⊎ P y) xs
-or_passes P x [] h = tt
-or_passes P x (y ∷ ys) h = (inr h.0, or_passes P x ys h.1)
+not_first : {X : Type 0} (c : X → X → Ordering) → IsTotalOrder c → (P : X → Type 0) (x : X) (xs : List X) → EachOf (λ y. c x y ≡ Ordering.Less) xs →
+    EachOf (λ y. (y ≡ x) ⊎ P y) xs → EachOf P xs
+not_first c o P x xs above h =
+    each _ _ xs (λ y both. elim both.1 [ inl same ↦ absurd (irreflexive c o x (ap (c x) (sym same) ∙ both.0)) | inr here ↦ here ]) (each_both _ _ xs above h)
 
 -- lists that rise strictly and have the same elements are equal
 same_from_elements : {X : Type 0} (c : X → X → Ordering) → IsTotalOrder c → (xs ys : List X) → IsStrictlySortedBy c xs → IsStrictlySortedBy c ys →
@@ -65,19 +53,19 @@ same_from_elements {X} c o (x ∷ xs) (y ∷ ys) up down to from =
     ∙ ap (λ l. y ∷ l) (same_from_elements c o xs ys (sorted_tail c x xs up) (sorted_tail c y ys down) to_tail from_tail)
   where
     first : (y ≡ x) ⊎ (c x y ≡ Ordering.Less)
-    first = (to (λ z. (z ≡ x) ⊎ (c x z ≡ Ordering.Less)) (inl refl, first_or_above c x xs (sorted_head c x xs up))).0
+    first = (to (λ z. (z ≡ x) ⊎ (c x z ≡ Ordering.Less)) (inl refl, each _ _ xs (λ z less. inr less) (sorted_head c x xs up))).0
 
     second : (x ≡ y) ⊎ (c y x ≡ Ordering.Less)
-    second = (from (λ z. (z ≡ y) ⊎ (c y z ≡ Ordering.Less)) (inl refl, first_or_above c y ys (sorted_head c y ys down))).0
+    second = (from (λ z. (z ≡ y) ⊎ (c y z ≡ Ordering.Less)) (inl refl, each _ _ ys (λ z less. inr less) (sorted_head c y ys down))).0
 
     heads : (y ≡ x) ⊎ (c x y ≡ Ordering.Less) → (x ≡ y) ⊎ (c y x ≡ Ordering.Less) → x ≡ y
     heads g k = grind arith
 
     to_tail : (P : X → Type 0) → AllByRecursion P xs → AllByRecursion P ys
-    to_tail P h = not_first c o P y ys (sorted_head c y ys down) ((to (λ z. (z ≡ y) ⊎ P z) (inl (heads first second), or_passes P y xs h)).1)
+    to_tail P h = not_first c o P y ys (sorted_head c y ys down) ((to (λ z. (z ≡ y) ⊎ P z) (inl (heads first second), each _ _ xs (λ z p. inr p) h)).1)
 
     from_tail : (P : X → Type 0) → AllByRecursion P ys → AllByRecursion P xs
-    from_tail P h = not_first c o P x xs (sorted_head c x xs up) ((from (λ z. (z ≡ x) ⊎ P z) (inl (sym (heads first second)), or_passes P x ys h)).1)
+    from_tail P h = not_first c o P x xs (sorted_head c x xs up) ((from (λ z. (z ≡ x) ⊎ P z) (inl (sym (heads first second)), each _ _ ys (λ z p. inr p) h)).1)
 
 -- a sorted list is the one order of its elements that rises strictly
 pub same_sorted : {X : Type 0} (c : X → X → Ordering) → IsTotalOrder c → (xs ys : List X) → IsSorted c xs → IsStrictlySortedBy c ys

@@ -13,8 +13,7 @@ use Rattle.model_laws.proofs.Basics.{each, each-append}
 ascends_more : {X : Type 0} (number : X → ℕ) (n top : ℕ) (rows : List X) (row : X) → Ascends number n rows → Below number (top + 1) rows
     → n ≤ number row → top < number row → Ascends number n (rows ++ row ∷ [])
 ascends_more number n top [] row up below from above = (from, tt)
-ascends_more number n top (x ∷ rows) row up below from above =
-    let low = below.0 in (up.0, ascends_more number (number x + 1) top rows row up.1 below.1 (omega arith) above)
+ascends_more number n top (x ∷ rows) row up below from above = grind (arith, (ascends_more number (number x + 1) top rows row up.1 below.1 (omega arith) above))
 
 -- what holds of all holds of one
 pub each_at : {X : Type 0} (P : X → Type 0) (rows : List X) (row : X) (rest : List X) → EachOf P (rows ++ row ∷ rest) → P row
@@ -25,11 +24,7 @@ each_at P (x ∷ rows) row rest h = each_at P rows row rest h.1
 above_before : {X : Type 0} (number : X → ℕ) (n : ℕ) (rows : List X) (row : X) (rest : List X) → Ascends number n (rows ++ row ∷ rest)
     → (n ≤ number row) × Below number (number row) rows
 above_before number n [] row rest up = (up.0, tt)
-above_before number n (x ∷ rows) row rest up =
-    let later = above_before number (number x + 1) rows row rest up.1 in
-    let first = up.0 in
-    let above = later.0 in
-    (omega (arith, first, above), (omega (arith, above), later.1))
+above_before number n (x ∷ rows) row rest up = grind (arith, (above_before number (number x + 1) rows row rest up.1))
 
 -- a row of a table behind those so far counts on
 pub counts_on : {X : Type 0} (number : X → ℕ) (first now : Counter) (rows : List X) (row : X) (rest : List X) → IsUpTo number first now rows
@@ -82,13 +77,7 @@ answered_more rows row before after pushed are = search (rules, filter_map-appen
 pub places_more : (rows : List (Owned Listed)) (row : Owned Listed) (order place : ℕ) → IsPlacedNext order place row.owner row.row.place
     → EachOf (IsPlacedUpTo order place) rows → PlacesRise rows → PlacesRise (rows ++ row ∷ [])
 places_more [] row order place next up rise = (tt, tt)
-places_more (r ∷ rows) row order place next up rise = (
-  each_more (λ s. s.owner ≡ r.owner → r.row.place < s.row.place) rows row rise.0 (λ same. above next up.0 same),
-  places_more rows row order place next up.1 rise.1,
-)
-  where
-    above : IsPlacedNext order place row.owner row.row.place → IsPlacedUpTo order place r → row.owner ≡ r.owner → r.row.place < row.row.place
-    above h k l = grind arith
+places_more (r ∷ rows) row order place next up rise = grind (arith, each_more, (places_more rows row order place next up.1 rise.1))
 
 -- all are up to it
 pub placed_more : (rows : List (Owned Listed)) (row : Owned Listed) (order place : ℕ) → IsPlacedNext order place row.owner row.row.place

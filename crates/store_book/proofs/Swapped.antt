@@ -1,78 +1,41 @@
 -- What is made of each element moves with it.
-use Rattle.std.proofs.Common.{◌≡◌, ℕ, ◌+◌, ◌-◌, ◌<◌, take, drop, true, false, Bool, Option, append_assoc, length-append, List, [], ◌∷◌, ◌++◌, refl, sym, ap}
-use Rattle.std.proofs.Common.{◌∙◌, map, length, set, slice_index_or, arith, IsPermutation, rules}
+use Rattle.std.proofs.Common.{◌≡◌, ℕ, ◌<◌, Option, append_assoc, List, [], ◌∷◌, ◌++◌, refl, sym, ap, ◌∙◌, map, length, set, arith, IsPermutation, rules, zero}
+use Rattle.std.proofs.Common.{suc, get_or}
 use Rattle.std.proofs.lemmas.List.Sorted.{IsPermutation-trans, IsPermutation-keeps, IsPermutation-refl, IsPermutation-swap, IsPermutation-append_left}
 use Rattle.std.proofs.lemmas.List.Sorted.{IsPermutation-append_right, IsPermutation-append_comm}
-use Rattle.std.proofs.lemmas.List.{get_or-drop, map-set, length-map, set-get_or, take-append-drop, drop_more, length-take-le, length-drop, set_at, set_comm}
-use Rattle.std.proofs.{Math.ListN.get_or-map, lemmas.List.Edits.swap_is, lemmas.List.Concat.flat_map-append, lemmas.Bool.ltb-true, lemmas.Bool.ltb-false}
+use Rattle.std.proofs.{lemmas.List.map-set, lemmas.List.length-map, Math.ListN.get_or-map}
 use Rattle.std.specs.List.{cons_option, filter_map, flat_map, swap}
-use lib.Dec.{ltb}
 
 -- two elements change places as what is made of them does
 map-swap : {X Y : Type 0} (f : X → Y) (xs : List X) (i j : ℕ) → map f (swap xs i j) ≡ swap (map f xs) i j
 map-swap f xs i j = search (rules, map-set, get_or-map)
 
--- three parts with the first and the last in each other's place
-three-parts : {B : Type 0} (p q r t : List B) → IsPermutation (p ++ (q ++ (r ++ t))) (r ++ (q ++ (p ++ t)))
-three-parts p q r t =
-    let one : IsPermutation (p ++ (q ++ r)) ((q ++ r) ++ p) = IsPermutation-append_comm p (q ++ r) in
-    let two : IsPermutation ((q ++ r) ++ p) ((r ++ q) ++ p) = IsPermutation-append_left p _ _ (IsPermutation-append_comm q r) in
-    let both = IsPermutation-append_left t _ _ (IsPermutation-trans _ _ _ one two) in
-    rw (append_assoc p (q ++ r) t, append_assoc q r t) at (rw (append_assoc (r ++ q) p t, append_assoc r q (p ++ t)) at both)
+-- two parts before a third in each other's place
+turned : {B : Type 0} (p q r : List B) → IsPermutation (p ++ (q ++ r)) (q ++ (p ++ r))
+turned p q r = rw (append_assoc p q r, append_assoc q p r) at (IsPermutation-append_left r _ _ (IsPermutation-append_comm p q))
 
--- the parts of a list, with two of them in each other's place
-flat-swap-less : {X B : Type 0} (f : X → List B) (l : List X) (i j : ℕ) (d : X) → i < j → j < length l → IsPermutation (flat_map f l) (flat_map f (swap l i j))
-flat-swap-less f l i j d a b =
-    let x = slice_index_or l i d in
-    let y = slice_index_or l j d in
-    let front = take i l in
-    let r = drop (i + 1) l in
-    let long-front : length front ≡ i = length-take-le i l (omega (arith, a, b)) in
-    let whole : l ≡ front ++ x ∷ r = sym (rw (sym (drop_more l i d (omega (arith, a, b)))) (take-append-drop i l)) in
-    let long-r : length r ≡ length l - (i + 1) = length-drop (i + 1) l in
-    let m = take (j - i - 1) r in
-    let back = drop (j - i) r in
-    let in-r : j - i - 1 < length r = omega (arith, a, b, long-r) in
-    let jj : i + 1 + (j - i - 1) ≡ j = omega (arith, a) in
-    let at-j : slice_index_or r (j - i - 1) d ≡ y = rw (get_or-drop (i + 1) l (j - i - 1) d, jj) refl in
-    let long-m : length m ≡ j - i - 1 = length-take-le (j - i - 1) r (omega (arith, in-r)) in
-    let past : j - i - 1 + 1 ≡ j - i = omega (arith, a) in
-    let r-is : r ≡ m ++ y ∷ back = sym (rw (drop_more r (j - i - 1) d in-r, at-j, past) at (take-append-drop (j - i - 1) r)) in
-    let once : set l i y ≡ (front ++ y ∷ m) ++ y ∷ back =
-    ap (λ v. set v i y) whole ∙ set_at front x r y i long-front ∙ ap (λ v. front ++ y ∷ v) r-is ∙ sym (append_assoc front (y ∷ m) (y ∷ back)) in
-    let long-y : length (front ++ y ∷ m) ≡ j = omega (arith, length-append front (y ∷ m), long-front, long-m, a) in
-    let twice : set (set l i y) j x ≡ (front ++ y ∷ m) ++ x ∷ back =
-    ap (λ v. set v j x) once ∙ set_at (front ++ y ∷ m) y back x j long-y in
-    let swapped : swap l i j ≡ (front ++ y ∷ m) ++ x ∷ back = sym (swap_is l i j d (omega (arith, a, b)) b) ∙ twice in
-    let l-flat : flat_map f l ≡ flat_map f front ++ (f x ++ (flat_map f m ++ (f y ++ flat_map f back))) =
-    ap (flat_map f) (whole ∙ ap (λ v. front ++ x ∷ v) r-is) ∙ flat_map-append f front (x ∷ m ++ y ∷ back)
-    ∙ ap (λ v. flat_map f front ++ (f x ++ v)) (flat_map-append f m (y ∷ back)) in
-    let s-flat : flat_map f (swap l i j) ≡ flat_map f front ++ (f y ++ (flat_map f m ++ (f x ++ flat_map f back))) =
-    ap (flat_map f) swapped ∙ flat_map-append f (front ++ y ∷ m) (x ∷ back) ∙ ap (λ v. v ++ (f x ++ flat_map f back)) (flat_map-append f front (y ∷ m))
-    ∙ append_assoc (flat_map f front) (f y ++ flat_map f m) (f x ++ flat_map f back)
-    ∙ ap (λ v. flat_map f front ++ v) (append_assoc (f y) (flat_map f m) (f x ++ flat_map f back)) in
-    rw (l-flat, s-flat) (IsPermutation-append_right (flat_map f front) _ _ (three-parts (f x) (flat_map f m) (f y) (flat_map f back)))
+-- an element and one behind it in each other's place
+flat-first : {X B : Type 0} (f : X → List B) (x d : X) (xs : List X) (j : ℕ) → j < length xs
+    → IsPermutation (f x ++ flat_map f xs) (f (get_or xs j d) ++ flat_map f (set xs j x))
+flat-first f x d [] j within = absurd (omega (arith, within))
+flat-first f x d (z ∷ zs) zero within = turned (f x) (f z) (flat_map f zs)
+flat-first f x d (z ∷ zs) (suc j) within =
+    IsPermutation-trans _ _ _ (turned (f x) (f z) (flat_map f zs))
+    (IsPermutation-trans _ _ _ (IsPermutation-append_right (f z) _ _ (flat-first f x d zs j (omega (arith, within))))
+    (turned (f z) (f (get_or zs j d)) (flat_map f (set zs j x))))
+
+-- two elements in each other's place
+flat-sets : {X B : Type 0} (f : X → List B) (d : X) (l : List X) (i j : ℕ) → i < length l → j < length l
+    → IsPermutation (flat_map f l) (flat_map f (set (set l i (get_or l j d)) j (get_or l i d)))
+flat-sets f d [] i j a b = absurd (omega (arith, a))
+flat-sets f d (x ∷ xs) zero zero a b = IsPermutation-refl _
+flat-sets f d (x ∷ xs) zero (suc j) a b = flat-first f x d xs j (omega (arith, b))
+flat-sets f d (x ∷ xs) (suc i) zero a b = flat-first f x d xs i (omega (arith, a))
+flat-sets f d (x ∷ xs) (suc i) (suc j) a b = IsPermutation-append_right (f x) _ _ (flat-sets f d xs i j (omega (arith, a)) (omega (arith, b)))
 
 flat-swap : {X B : Type 0} (f : X → List B) (l : List X) (i j : ℕ) → i < length l → j < length l → IsPermutation (flat_map f l) (flat_map f (swap l i j))
 flat-swap f [] i j a b = absurd (omega (arith, a))
-flat-swap {X} f (d ∷ ls) i j a b = go (ltb i j) refl
-  where
-    l : List X
-    l = d ∷ ls
-
-    go : (v : Bool) → ltb i j ≡ v → IsPermutation (flat_map f l) (flat_map f (swap l i j))
-    go true e = flat-swap-less f l i j d (ltb-true _ _ e) b
-    go false e = go2 (ltb j i) refl
-      where
-        go2 : (v : Bool) → ltb j i ≡ v → IsPermutation (flat_map f l) (flat_map f (swap l i j))
-        go2 true e2 =
-            let less = ltb-true _ _ e2 in
-            let same : swap l j i ≡ swap l i j = sym (swap_is l j i d b a) ∙ set_comm l j i _ _ (λ z. absurd (omega (arith, z, less))) ∙ swap_is l i j d a b in
-            rw (sym same) (flat-swap-less f l j i d less a)
-        go2 false e2 =
-            let same : i ≡ j = omega (arith, ltb-false _ _ e, ltb-false _ _ e2) in
-            let still : swap l i j ≡ l = rw same (sym (swap_is l j j d b b) ∙ rw (set-get_or l j d) (set-get_or l j d)) in
-            rw still (IsPermutation-refl _)
+flat-swap f (d ∷ ls) i j a b = flat-sets f d (d ∷ ls) i j a b
 
 pub flat-permutation : {X B : Type 0} (f : X → List B) (zs ws : List X) → IsPermutation zs ws → IsPermutation (flat_map f zs) (flat_map f ws)
 flat-permutation {X} f zs ws p =

@@ -46,6 +46,7 @@ impl RowCheck<AccountColumns> for AccountCheck {
 
     ghost AreAll = { λ first rows. AreAccounts first.counter.last rows };
 
+    #[tactic(auto, using(crate::proofs::Steps::counts_on, crate::proofs::Steps::kept_more, crate::proofs::Steps::up_to_more))]
     fn passes(&mut self, row: &AccountRow) -> Result<bool, AllocError> {
         if !self.counter.passes(row.number) {
             return Ok(false);

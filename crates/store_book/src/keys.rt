@@ -45,6 +45,7 @@ impl<'a> RowCheck<ChallKeyColumns> for KeyCheck<'a> {
         Ok(true)
     }
 
+    #[tactic(auto, using(crate::proofs::Steps::none_behind))]
     fn finish(self, _alloc: Global) -> Result<Option<()>, AllocError> {
         if self.left.is_empty() {
             Ok(Some(()))

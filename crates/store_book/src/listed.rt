@@ -58,6 +58,7 @@ impl<'a> RowCheck<OrderAuthzColumns> for ListedCheck<'a> {
 
     ghost AreAll = { λ first rows. ArePlaced first.order first.place first.orders.now first.authorizations.now rows };
 
+    #[tactic(auto, using(crate::proofs::Steps::each_at, crate::proofs::Steps::each_more, crate::proofs::Steps::placed_behind, crate::proofs::Steps::placed_more, crate::proofs::Steps::places_more))]
     fn passes(&mut self, row: &Owned<Listed>) -> Result<bool, AllocError> {
         if !self.is_next(row.owner, row.row.place) {
             return Ok(false);

@@ -144,6 +144,7 @@ pub fn with_listed(
 /// # Errors
 ///
 /// Where there is no memory for the table.
+#[tactic(auto, using(std::proofs::lemmas::List::nil_from_length, model_laws::proofs::RowLists::puts_ascending))]
 pub(crate) fn table_of<R: Row + Drop>(alloc: Global, rows: Vec<R>) -> Result<Table<R>, AllocError>
     requires { Ascends (λ row. R.number row) 1 rows.items }
     ensures { IfOk result (λ table. table ≡ rows.items) }

@@ -36,6 +36,7 @@ impl RowCheck<NonceColumns> for NonceCheck {
 
     ghost AreAll = { λ first rows. IsTable (λ n. n.serial) first.counter.last rows };
 
+    #[tactic(auto, using(crate::proofs::Steps::counts_on, crate::proofs::Steps::up_to_more))]
     fn passes(&mut self, row: &Nonce) -> Result<bool, AllocError> {
         Ok(self.counter.passes(row.serial))
     }

@@ -32,6 +32,7 @@ pub fn check(alloc: Global, book: &Book) -> Result<Vec<StatusFault>, AllocError>
 }
 
 // Puts the faults of accounts, orders, authorizations and challenges, one kind after the other.
+#[tactic(auto, using(crate::proofs::Pushed::all_faults))]
 fn push_faults(faults: &mut Vec<StatusFault>, alloc: Global, book: &Book) -> Result<(), AllocError>
     ensures { OnOk result (faults.new.items ≡ faults.old.items ++ status_faults book.now) }
 {

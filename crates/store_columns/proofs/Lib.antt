@@ -1,6 +1,5 @@
 pub mod ContactTexts
 pub mod JsonTexts
-pub mod MetaRow
 pub mod ProblemTexts
 pub mod RowsApart
 pub mod SpellingApart

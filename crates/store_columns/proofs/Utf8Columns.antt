@@ -1,5 +1,5 @@
 -- Each TEXT column of rows that hold texts is UTF-8.
-use Rattle.std.proofs.Common.{ℕ, List, [], ◌∷◌, map, Option, Some, option_map, Bool, false, IsUtf8, IfSome, subst, refl, ◌≡◌, true, cond, arith}
+use Rattle.std.proofs.Common.{ℕ, List, [], ◌∷◌, map, Option, Some, option_map, Bool, false, IsUtf8, IfSome, subst, refl, ◌≡◌, true, cond, arith, rules}
 use Rattle.std.proofs.{lemmas.Bool.and_parts, lemmas.Option.same_Some, lemmas.Str.IsUtf8-append, lemmas.Str.IsUtf8-nil, lemmas.Bool.Decides.nat_tests}
 use Rattle.std.specs.{List.list_all, Prelude.bytes_eq, Prelude.codes}
 use Rattle.store_columns.proofs.SpellingApart.{AreSpelled, found_by, account_statuses, authorization_statuses, challenge_statuses}
@@ -10,11 +10,11 @@ use Rattle.json.proofs.Printed.Utf8.{are_ascii, IsUtf8-are_ascii, IsUtf8-key, Is
 use Rattle.serde_json.specs.{Data.Data, Data.string, View.items_of, Written.compact_text, Written.items_outline, Written.outline}
 use Rattle.serde_json.proofs.Texts.{print-outline}
 use Rattle.desk_model.specs.Document.{account_status_text, authorization_status_text, challenge_status_text, kind_text, order_status_text}
-use Rattle.desk_model.specs.Texts.{AreTexts, HoldsTextAccount, HoldsTextAuthorization, HoldsTextMeta, HoldsTextOrder, IsTextProblem}
+use Rattle.desk_model.specs.Texts.{AreTexts, HoldsTextAccount, HoldsTextAuthorization, HoldsTextOrder, IsTextProblem}
 use Rattle.desk_model.specs.{Json.list, Kept.EachOf, declared.call.OrderProblem.OrderProblem, Facts.ending_text, Facts.end_kind_text, Facts.outcome_text}
 use Rattle.desk_model.specs.declared.rows.{AccountRow.AccountRow, AuthorizationRow.AuthorizationRow, DatedProblem.DatedProblem, OrderRow.OrderRow}
-use Rattle.store_columns.specs.Columns.{account_columns, authorization_columns, challenge_columns, meta_columns, order_columns, rows_columns}
-use Rattle.store_columns.specs.TextColumns.{HasTextAccount, HasTextAuthorization, HasTextChallenge, HasTextMeta, HasTextOrder, ColumnsAreTexts, RowsHoldTexts}
+use Rattle.store_columns.specs.Columns.{account_columns, authorization_columns, challenge_columns, order_columns, rows_columns}
+use Rattle.store_columns.specs.TextColumns.{HasTextAccount, HasTextAuthorization, HasTextChallenge, HasTextOrder, ColumnsAreTexts, RowsHoldTexts}
 use Rattle.store_columns.specs.{Laws.TextsAreWritten, Spelling.contacts_text, Spelling.problem_document, Spelling.problem_text}
 use Rattle.store_columns.specs.{declared.columns.BareChallenge.BareChallenge, declared.columns.FlatRows.FlatRows, declared.columns.Owned.Owned}
 
@@ -139,23 +139,8 @@ all_written Q write text (row ∷ rows) = (text row, all_written Q write text ro
 
 -- the rows of all tables
 rows_written : (rows : FlatRows) → RowsHoldTexts rows → ColumnsAreTexts (rows_columns rows)
-rows_written rows h =
-    record {
-      metas = each_written HoldsTextMeta HasTextMeta meta_columns (λ row k. k) rows.metas h.metas;
-      accounts = each_written HoldsTextAccount HasTextAccount account_columns account_written rows.accounts h.accounts;
-      orders = each_written HoldsTextOrder HasTextOrder order_columns order_written rows.orders h.orders;
-      authzs = each_written HoldsTextAuthorization HasTextAuthorization authorization_columns authorization_written rows.authorizations h.authorizations;
-      challs = all_written HasTextChallenge challenge_columns challenge_written rows.challenges;
-    }
+rows_written rows h = search (rules, each_written, account_written, order_written, authorization_written, all_written, challenge_written)
 
 -- rows are written as texts, one by one and all together
 pub texts_are_written : TextsAreWritten
-texts_are_written =
-    record {
-      metas = λ row h. h;
-      accounts = account_written;
-      orders = order_written;
-      authorizations = authorization_written;
-      challenges = challenge_written;
-      rows = rows_written;
-    }
+texts_are_written = search (rules, account_written, order_written, authorization_written, challenge_written, rows_written)

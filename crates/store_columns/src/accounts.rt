@@ -74,6 +74,7 @@ fn lone_contact(alloc: Global, contact: &str) -> Result<Option<Sequence<Text>>, 
 }
 
 // The contacts that a text spells, by its value.
+#[tactic(auto, using(crate::proofs::ContactTexts::none_of_no_value))]
 fn listed_contacts(alloc: Global, text: &str) -> Result<Option<Sequence<Text>>, AllocError>
     ensures { IfOk result (λ contacts. IsRead contacts_text Unlimited text.now contacts) }
 {
@@ -84,6 +85,7 @@ fn listed_contacts(alloc: Global, text: &str) -> Result<Option<Sequence<Text>>, 
 }
 
 // The contacts that the text of a value spells.
+#[tactic(auto, using(crate::proofs::ContactTexts::none_of_loose_text, crate::proofs::ContactTexts::of_value, crate::proofs::StringLists::texts_are_read))]
 fn contacts_in(
     alloc: Global,
     value: &Value,

@@ -248,6 +248,7 @@ pub trait Columns: Drop {
 /// # Errors
 ///
 /// Where there is no memory for them.
+#[tactic(auto, using(crate::proofs::TableRows::not_read, crate::proofs::TableRows::read_more))]
 pub fn read_table<C: Columns>(
     alloc: Global,
     table: Sequence<C>,

@@ -109,6 +109,7 @@ impl Columns for OrderSummaryColumns {
 // ---- the column `problem`: a compact JSON object of a detail and a type
 
 /// The problem that a column spells.
+#[tactic(auto, using(crate::proofs::ProblemTexts::none_of_none))]
 pub(crate) fn read_problem(alloc: Global, text: &str) -> Result<Option<OrderProblem>, AllocError>
     ensures { IfOk result (λ problem. IsRead problem_text IsProblem text.now problem) }
 {

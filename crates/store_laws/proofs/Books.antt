@@ -1,5 +1,5 @@
 -- The tables of a history are a book.
-use Rattle.std.proofs.Common.{◌≤◌, ◌<◌, ℕ, ◌+◌, List, [], ◌∷◌, ◌++◌, length, map, refl, Bool, arith}
+use Rattle.std.proofs.Common.{◌≤◌, ◌<◌, ℕ, ◌+◌, List, [], ◌∷◌, ◌++◌, length, map, refl, Bool, arith, rules}
 use Rattle.std.specs.{Prelude.◌==◌, Prelude.IsSome, Prelude.find, List.flat_map}
 use Rattle.model_laws.proofs.Recorded.{below_map, challenges_ordered, numbered_below, tables_ordered}
 use Rattle.model_laws.proofs.{Basics.each, Basics.each-map, Basics.each_all, Keeps.row_keys_differ, RowLists.ascends_from, Distinctness.ascends_distinct}
@@ -81,10 +81,7 @@ some_map p f (x ∷ xs) h = grind (arith, (some_map p f xs))
 listed_rows_found : (F : History) (t place : ℕ) (ns : List ℕ) → EachOf (IsFound F) ns →
     EachOf (λ l. IsSome (find (λ (a : AuthorizationRow). a.number == l.authorization) (tables_at F t).authorizations)) (listed_from place ns)
 listed_rows_found F t place [] h = tt
-listed_rows_found F t place (n ∷ ns) h = (
-  some_map (λ (a : AuthorizationRow). a.number == n) (authorization_row F t) (authorizations F) h.0,
-  listed_rows_found F t (place + 1) ns h.1,
-)
+listed_rows_found F t place (n ∷ ns) h = search (rules, some_map, (listed_rows_found F t (place + 1) ns h.1))
 
 -- each reference is found
 have_references : (F : History) → EachFollows F → (t : ℕ) → HaveReferences (tables_at F t)

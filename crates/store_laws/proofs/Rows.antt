@@ -3,17 +3,16 @@ use Rattle.std.proofs.Common.{◌≡◌, ◌≤◌, ◌<◌, ℕ, ◌+◌, List,
 use Rattle.std.proofs.{lemmas.List.Elements.filter_map-append, lemmas.Bool.and_parts}
 use Rattle.std.specs.{Prelude.◌==◌, Prelude.IfSome, Prelude.IsSome, Prelude.IsTrue, Prelude.find, List.flat_map}
 use Rattle.sha2.proofs.Facts256.{length-sha256}
-use Rattle.store_columns.specs.Limits.{AreStored, IfRecorded, IsDatedProblem, IsMoment, IsNumber, IsStoredAccount}
-use Rattle.store_columns.specs.Limits.{IsStoredChallenge, IsStoredKey, IsStoredListed, IsStoredMeta, IsStoredNonce}
+use Rattle.store_columns.specs.Limits.{AreStored, IfRecorded, IsDatedProblem, IsMoment, IsNumber, IsStoredAccount, IsStoredChallenge, IsStoredKey}
+use Rattle.store_columns.specs.Limits.{IsStoredListed, IsStoredMeta, IsStoredNonce}
 use Rattle.store_columns.specs.Flat.{bare_row, challenge_rows, flat, key_rows, owned_by, without_challenges, without_listed}
-use Rattle.desk_model.specs.Legal.{has_length, is_problem, is_problem_kind, Legal, may_follow}
-use Rattle.desk_model.specs.{Account.account_key, BaseName.is_base_name, Change.spent_by, Entry.History, Order.orders, declared.objects.Answer.Answer}
-use Rattle.desk_model.specs.{declared.entry.Entry.Entry, declared.entry.Entry.TheVariants.Spent as spent, declared.rows.AuthorizationRow.AuthorizationRow}
-use Rattle.desk_model.specs.{declared.rows.ChallengeRow.ChallengeRow, declared.rows.DatedProblem.DatedProblem, declared.rows.Listed.Listed}
-use Rattle.desk_model.specs.{declared.rows.OrderRow.OrderRow, Authorization.answer, Authorization.answer_by, Authorization.answering}
-use Rattle.desk_model.specs.{Authorization.authorizations, History.clock, History.earlier, Kept.EachOf, Kept.Kept, Kept.restricted, Limits.last_end}
-use Rattle.desk_model.specs.{Limits.last_moment, Limits.last_number, Limits.longest_detail, Nonce.is_open, Nonce.nonce, Nonce.nonces, Questions.account_on}
-use Rattle.desk_model.specs.{Questions.authorization_on, Tables.order_row, Tables.picture, Tables.Tables, Tables.tables_at}
+use Rattle.desk_model.specs.{Legal.has_length, declared.objects.Answer.Answer, declared.rows.ChallengeRow.ChallengeRow, declared.rows.DatedProblem.DatedProblem}
+use Rattle.desk_model.specs.{Legal.is_problem, Account.account_key, Authorization.answer, Limits.last_moment, Limits.last_number, Questions.account_on}
+use Rattle.desk_model.specs.{Legal.is_problem_kind, Legal.Legal, BaseName.is_base_name, Authorization.answer_by, Authorization.answering, Limits.longest_detail}
+use Rattle.desk_model.specs.{Legal.may_follow, History.earlier, Kept.Kept, Kept.restricted, Limits.last_end, Tables.order_row, Tables.picture, Tables.tables_at}
+use Rattle.desk_model.specs.{Change.spent_by, declared.entry.Entry.Entry, declared.rows.Listed.Listed, Authorization.authorizations, Questions.authorization_on}
+use Rattle.desk_model.specs.{Entry.History, Order.orders, History.clock, Kept.EachOf, Nonce.is_open, Nonce.nonce, Nonce.nonces, Tables.Tables}
+use Rattle.desk_model.specs.{declared.entry.Entry.TheVariants.Spent as spent, declared.rows.AuthorizationRow.AuthorizationRow, declared.rows.OrderRow.OrderRow}
 use Rattle.model_laws.proofs.Basics.{each, each-append, each-map, each_all, each_both, there}
 use Rattle.model_laws.proofs.Keeps.{all_end, counters_fit, each-filter, row_keys_formed, row_names_formed, terms_in_limits}
 use Rattle.model_laws.proofs.{Dates.clock_in_time, Dates.no_date_later, Forms.nonces_drawn, Forms.problem_formed, Forms.tokens_drawn, Numbers.nonces_numbered}

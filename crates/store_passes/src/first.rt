@@ -11,6 +11,7 @@ use store_api::StorageFault;
 /// # Errors
 ///
 /// `Reopen` where the row is not above the number.
+#[tactic(auto, using(crate::proofs::Rows::last_is_above))]
 pub(crate) fn first_above<R: Row + Drop>(
     rows: Vec<R>,
     above: u64,

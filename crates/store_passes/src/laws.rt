@@ -5,6 +5,7 @@ ghost use Rattle.store_passes.specs.Laws.{BooksAreInOrder, KindsMakeAllFaults};
 use crate::fault_kind::FaultKind;
 
 /// The tables of each book are in the order that passes ask for, whatever statuses they store.
+#[tactic(auto, using(crate::proofs::Alls::books_in_order))]
 pub fn books_are_in_order()
     ensures { BooksAreInOrder }
 {}

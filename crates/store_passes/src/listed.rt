@@ -38,6 +38,7 @@ impl Column for DnsName {
 }
 
 // Puts the column of the first row, if there is one.
+#[tactic(auto, using(std::proofs::Common::append_assoc, crate::proofs::Firsts::first_listed, crate::proofs::Firsts::none_listed))]
 fn push_first<C: Column>(values: &mut Vec<C>, rows: &[AuthorizationRow]) -> Result<(), AllocError>
     ensures { OnOk result ((all : List Row) (number : ℕ) (later : List ℕ) → rows.now ≡ filter (λ a. a.number == number) all →
         values.new.items ++ map C.column (rows_of all later) ≡ values.old.items ++ map C.column (rows_of all (number ∷ later))) }
@@ -83,6 +84,7 @@ fn add_listed<S: LookUps, C: Column>(
 }
 
 /// The stored statuses of the authorizations that an order lists, read one after the other.
+#[tactic(auto, using(crate::proofs::Firsts::statuses_listed))]
 pub(crate) fn listed_statuses<S: LookUps>(
     alloc: Global,
     source: &mut S,

@@ -23,6 +23,7 @@ pub struct Orders<'a, S: RowsAbove> {
 
 impl<'a, S: RowsAbove> Orders<'a, S> {
     /// A pass through all orders of this source.
+    #[tactic(auto, using(crate::proofs::Alls::all_orders, crate::proofs::Alls::books_in_order))]
     pub fn new(source: &'a mut S) -> Orders<'a, S>
         ensures same_source { result.source.ghost_name ≡ source.entry.ghost_name }
         ensures unread { result.source.now ≡ source.old }
@@ -41,6 +42,7 @@ impl<'a, S: RowsAbove> Orders<'a, S> {
     /// # Errors
     ///
     /// As a look-up of the source; of tables by no other fault. `Reopen` also where rows do not stand by number, which no tables have.
+    #[tactic(auto, using(crate::proofs::Alls::books_in_order))]
     pub fn next(&mut self, alloc: Global) -> Result<Option<OrderRow>, StorageFault>
         ensures same_source { self.new.source.ghost_name ≡ self.old.source.ghost_name }
         ensures reads { LeavesUnchanged S.sight self.old.source.now self.new.source.now result }

@@ -40,6 +40,7 @@ pub struct StatusFaults<'a, S: RowsAbove> {
 
 impl<'a, S: RowsAbove> StatusFaults<'a, S> {
     /// A pass through all objects of this kind, at the moment of the desk's clock, which `moment_of` gives.
+    #[tactic(auto, using(crate::proofs::Alls::all_of_kind, crate::proofs::Alls::books_in_order))]
     pub fn new(source: &'a mut S, kind: FaultKind, moment: u64) -> StatusFaults<'a, S>
         ensures same_source { result.source.ghost_name ≡ source.entry.ghost_name }
         ensures unread { result.source.now ≡ source.old }
@@ -61,6 +62,7 @@ impl<'a, S: RowsAbove> StatusFaults<'a, S> {
     /// # Errors
     ///
     /// As a look-up of the source; of tables by no other fault. `Reopen` also where rows do not stand by number, which no tables have.
+    #[tactic(auto, using(crate::proofs::Alls::books_in_order))]
     pub fn next(&mut self, alloc: Global) -> Result<Option<StatusFault>, StorageFault>
         ensures same_source { self.new.source.ghost_name ≡ self.old.source.ghost_name }
         ensures reads { LeavesUnchanged S.sight self.old.source.now self.new.source.now result }

@@ -12,16 +12,9 @@ returns-in-Ok-clause-ended g c clean image may =
     ends_as_stop c.args.store c.in-Ok.files (subst (λ conn. IsCopied conn c.in-Ok.files) c.close.ensures (c.in-Ok.ensures.copied clean))
     g.met.D.Disk.seen_may_stay image may
 
-pub returns-in-Ok-clause-honest : goal.returns-in-Ok-clause-honest
-returns-in-Ok-clause-honest g c clean =
-    let copied = subst (λ conn. IsCopied conn c.in-Ok.files) c.close.ensures (c.in-Ok.ensures.copied clean) in copied.was_clean
-
 pub returns-in-Err-clause-left : goal.returns-in-Err-clause-left
 returns-in-Err-clause-left g c trees may =
     left_of trees _ _ c.close.ensures (c.in-Err.ensures.err.0.quiet.outcomes trees may)
-
-pub returns-in-Err-clause-fault : goal.returns-in-Err-clause-fault
-returns-in-Err-clause-fault g c = (_, c.close_fault.ensures)
 
 pub returns-in-Err-clause-failed : goal.returns-in-Err-clause-failed
 returns-in-Err-clause-failed g c =

@@ -1,13 +1,9 @@
-use Rattle.std.proofs.{Common.inl, Common.inr, lemmas.Result.IfErr-weaker, lemmas.Result.IfOk-weaker, lemmas.Result.MatchResult-weaker}
+use Rattle.std.proofs.{Common.inr, lemmas.Result.IfErr-weaker, lemmas.Result.IfOk-weaker, lemmas.Result.MatchResult-weaker}
 use Rattle.sql_schema.proofs.StaysLemmas.{asks_then}
 use Rattle.desk_store.specs.Opening.{IsUpgraded}
 use Rattle.sqlite.specs.Held.{state}
-use Rattle.desk_files.proofs.Adopting.{clean_before, left_on, not_newer, not_refused, of_storage, survived}
+use Rattle.desk_files.proofs.Adopting.{clean_before, left_on, survived}
 use Rattle.desk_files.proofs.stored_desk.open_desk.Goals as goal
-
-pub returns-in-Ok-clause-idle : goal.returns-in-Ok-clause-idle
-returns-in-Ok-clause-idle g c =
-    MatchResult-weaker c.adopt.result c.adopt.ensures.asks (λ desk asked. asked.idle c.in-Ok.ensures.idle) (λ un asked. asked.idle c.in-Ok.ensures.idle)
 
 pub returns-in-Ok-clause-asks : goal.returns-in-Ok-clause-asks
 returns-in-Ok-clause-asks g c keys =
@@ -25,20 +21,6 @@ pub returns-in-Ok-clause-upgraded : goal.returns-in-Ok-clause-upgraded
 returns-in-Ok-clause-upgraded g c =
     IfOk-weaker c.adopt.result _ _ (λ desk kept clean T has. kept clean T (λ honest. c.in-Ok.ensures.upgraded honest T has)) c.adopt.ensures.kept
 
-pub returns-in-Ok-clause-desk : goal.returns-in-Ok-clause-desk
-returns-in-Ok-clause-desk g c =
-    IfErr-weaker c.adopt.result _ _ (λ un failed clean T has. of_storage g.S.Store c.in-Ok.store.conn un.conn un.fault failed) c.adopt.ensures.failed
-
-pub returns-in-Ok-clause-first : goal.returns-in-Ok-clause-first
-returns-in-Ok-clause-first g c =
-    IfErr-weaker c.adopt.result _ _ (λ un failed clean T has. of_storage g.S.Store c.in-Ok.store.conn un.conn un.fault failed) c.adopt.ensures.failed
-
-pub returns-in-Ok-clause-shows : goal.returns-in-Ok-clause-shows
-returns-in-Ok-clause-shows g c =
-    let opened = state g.S.Store c.in-Ok.store.conn in
-    MatchResult-weaker c.adopt.result c.adopt.ensures.asks
-    (λ desk asked clean. c.in-Ok.ensures.shows (clean_before opened (state g.S.Store desk.store.conn) asked clean)) (λ un asked. tt)
-
 pub returns-in-Ok-clause-whole : goal.returns-in-Ok-clause-whole
 returns-in-Ok-clause-whole g c =
     let opened = state g.S.Store c.in-Ok.store.conn in
@@ -50,23 +32,6 @@ returns-in-Ok-clause-whole_first g c =
     let opened = state g.S.Store c.in-Ok.store.conn in
     MatchResult-weaker c.adopt.result c.adopt.ensures.asks
     (λ desk asked clean none. c.in-Ok.ensures.whole_first (clean_before opened (state g.S.Store desk.store.conn) asked clean) none) (λ un asked. tt)
-
-pub returns-in-Ok-clause-later : goal.returns-in-Ok-clause-later
-returns-in-Ok-clause-later g c has =
-    let opened = state g.S.Store c.in-Ok.store.conn in
-    MatchResult-weaker c.adopt.result c.adopt.ensures.asks
-    (λ desk asked clean. c.in-Ok.ensures.later has (clean_before opened (state g.S.Store desk.store.conn) asked clean))
-    (λ un asked clean. absurd (c.in-Ok.ensures.later has (clean_before opened (state g.S.Store un.conn) asked clean)))
-
-pub returns-in-Ok-clause-newer : goal.returns-in-Ok-clause-newer
-returns-in-Ok-clause-newer g c =
-    IfErr-weaker c.adopt.result _ _
-    (λ un failed clean newer. not_newer un.fault (of_storage g.S.Store c.in-Ok.store.conn un.conn un.fault failed) newer) c.adopt.ensures.failed
-
-pub returns-in-Ok-clause-refused : goal.returns-in-Ok-clause-refused
-returns-in-Ok-clause-refused g c =
-    IfErr-weaker c.adopt.result _ _
-    (λ un failed refused. not_refused un.fault (of_storage g.S.Store c.in-Ok.store.conn un.conn un.fault failed) refused) c.adopt.ensures.failed
 
 pub returns-in-Ok-clause-left : goal.returns-in-Ok-clause-left
 returns-in-Ok-clause-left g c =
@@ -81,10 +46,3 @@ pub returns-in-Ok-clause-failed : goal.returns-in-Ok-clause-failed
 returns-in-Ok-clause-failed g c =
     IfErr-weaker c.adopt.result _ _
     (λ un failed. inr (record { from = c.in-Ok.store.conn; done = c.in-Ok.ensures.left; asked = failed })) c.adopt.ensures.failed
-
-pub returns-in-Err-clause-left : goal.returns-in-Err-clause-left
-returns-in-Err-clause-left g c =
-    let old = state g.S.Store c.args.conn in survived old (state g.S.Store c.in-Err.unopened.conn) (IsUpgraded old) c.in-Err.ensures.left
-
-pub returns-in-Err-clause-failed : goal.returns-in-Err-clause-failed
-returns-in-Err-clause-failed g c = inl c.in-Err.ensures.failed

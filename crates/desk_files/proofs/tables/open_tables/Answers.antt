@@ -3,12 +3,6 @@ use Rattle.sqlite.specs.Held.{state}
 use Rattle.desk_files.proofs.Opened.{early_survives, same_left}
 use Rattle.desk_files.proofs.tables.open_tables.Goals as goal
 
-pub returns-in-Ok-clause-honest : goal.returns-in-Ok-clause-honest
-returns-in-Ok-clause-honest g c = c.in-Ok.ensures.left.clean
-
-pub returns-in-Err-clause-honest : goal.returns-in-Err-clause-honest
-returns-in-Err-clause-honest g c = c.in-Err.ensures.left.clean
-
 pub returns-in-Ok-clause-opened : goal.returns-in-Ok-clause-opened
 returns-in-Ok-clause-opened g c clean T has = elim has [
   | inl desk ↦ c.in-Ok.ensures.kept clean T desk
@@ -33,15 +27,3 @@ returns-in-Err-clause-spared g c early clean is_open =
     let new = state g.A.Store c.in-Err.unopened.conn in
     same_left old new (early_survives c.in-Err.unopened.fault old new early c.in-Err.ensures.refused c.in-Err.ensures.spared) clean
     (λ trees may. g.met.A.Store.settled c.args.conn.store trees is_open may)
-
-pub returns-in-Err-clause-failed : goal.returns-in-Err-clause-failed
-returns-in-Err-clause-failed g c = c.in-Err.ensures.failed
-
-pub returns-in-Err-clause-newer : goal.returns-in-Err-clause-newer
-returns-in-Err-clause-newer g c = c.in-Err.ensures.newer
-
-pub returns-in-Err-clause-no_later : goal.returns-in-Err-clause-no_later
-returns-in-Err-clause-no_later g c = c.in-Err.ensures.no_later
-
-pub returns-in-Ok-clause-shows : goal.returns-in-Ok-clause-shows
-returns-in-Ok-clause-shows g c = c.in-Ok.ensures.shows

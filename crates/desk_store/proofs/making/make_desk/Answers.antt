@@ -1,10 +1,10 @@
-use Rattle.std.proofs.Common.{◌≡◌, ◌∙◌, ap, subst, arith}
-use Rattle.sqlite.specs.{Held.state, State.HasCleanDisk}
+use Rattle.std.proofs.Common.{◌≡◌, ◌∙◌, ap, subst}
+use Rattle.sqlite.specs.Held.{state}
 use Rattle.sqlite.proofs.StateLemmas.{survives_then, survives_weaker}
 use Rattle.desk_model.specs.{declared.rows.Meta.Meta, Tables.Tables}
 use Rattle.sql_write.specs.{Committing.HasCommitted, Committing.IsLeft, Making.MakesDesk, Refusals.IsCause, Statements.make_statements, Fits.FitsMeta}
 use Rattle.desk_store.specs.Making.{new_meta}
-use Rattle.desk_store.proofs.{NewDesks.desk_left, NewDesks.desk_made, NothingWritten.back_then, NothingWritten.same_fault, Failing.failed_to_save}
+use Rattle.desk_store.proofs.{NewDesks.desk_left, NewDesks.desk_made, Failing.failed_to_save}
 use Rattle.desk_store.proofs.making.make_desk.Goals as goal
 
 pub returns-in-Ok-clause-made : goal.returns-in-Ok-clause-made
@@ -20,16 +20,6 @@ returns-in-Ok-clause-left g c =
     survives_weaker old (state g.S.Store c.make_tables-made.new.conn) _ _
     (λ _ trees left. desk_left c.args.policy c.args.at c.new-book.result c.new-book.ensures.picture c.new-book.ensures.legal old trees
     (subst (λ (meta : Meta). IsLeft (MakesDesk meta old.now) trees) c.meta.ensures left)) c.make_tables-made.ensures.left
-
-pub returns-in-Err-clause-back : goal.returns-in-Err-clause-back
-returns-in-Err-clause-back g c clean =
-    let mid = state g.S.Store c.make_tables-made.new.conn in
-    let clean_mid : HasCleanDisk mid = let le = c.saving_fault.ensures.asks.survives.clean in omega (arith, clean, le) in
-    back_then (state g.S.Store c.args.conn.now) mid (state g.S.Store c.saving_fault.new.conn) (c.in-Err.ensures.err clean_mid)
-    (c.saving_fault.ensures.asks.stays clean)
-
-pub returns-in-Err-clause-answering : goal.returns-in-Err-clause-answering
-returns-in-Err-clause-answering g c clean memory = (c.saving_fault.ensures.unchanged clean (same_fault _ _ memory)).0.is_open
 
 pub returns-in-Err-clause-left : goal.returns-in-Err-clause-left
 returns-in-Err-clause-left g c =

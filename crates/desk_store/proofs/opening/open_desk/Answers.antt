@@ -47,14 +47,5 @@ returns-in-Err-clause-opens g c =
       answering = format.answering;
     }
 
-pub returns-in-Err-clause-refused : goal.returns-in-Err-clause-refused
-returns-in-Err-clause-refused g c is = c.check_format.ensures.asks
-
 pub returns-in-Err-clause-newer : goal.returns-in-Err-clause-newer
 returns-in-Err-clause-newer g c clean newer = (c.check_format.new.conn, c.in-Err.ensures.newer clean newer)
-
-pub returns-in-Err-clause-no_later : goal.returns-in-Err-clause-no_later
-returns-in-Err-clause-no_later g c clean none = inr (c.in-Err.ensures.refused clean none)
-
-pub returns-in-Err-clause-no_desk : goal.returns-in-Err-clause-no_desk
-returns-in-Err-clause-no_desk g c clean none = inl (c.in-Err.ensures.refused clean none)

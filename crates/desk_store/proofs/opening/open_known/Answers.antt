@@ -1,10 +1,10 @@
-use Rattle.std.proofs.Common.{◌∙◌, ap, inl, inr, refl, sym}
+use Rattle.std.proofs.{lemmas.Result.on_ok_weaker, Common.◌∙◌, Common.ap, Common.refl, Common.sym}
 use Rattle.sqlite.proofs.StateLemmas.{survives_weaker}
 use Rattle.sqlite.specs.Held.{state}
 use Rattle.sql_schema.proofs.StaysLemmas.{asks_nothing}
 use Rattle.sql_schema.specs.Names.{has_all_indexes, uses_key_table}
-use Rattle.desk_store.proofs.EitherFormat.{always_err, any_fault, back_asked, desk_indexes, first_indexes, lacks_keys, left_asked, not_both, of_answer}
-use Rattle.desk_store.proofs.EitherFormat.{uses_keys, whole_by, whole_first_by}
+use Rattle.desk_store.proofs.EitherFormat.{always_err, any_fault, back_asked, desk_indexes, first_indexes, lacks_keys, left_asked, not_both, uses_keys}
+use Rattle.desk_store.proofs.EitherFormat.{whole_by, whole_first_by}
 use Rattle.desk_store.proofs.{Books.always_ok, Failing.asked_to_open, Failing.leaves_nothing}
 use Rattle.desk_store.proofs.opening.open_known.Goals as goal
 
@@ -30,16 +30,6 @@ returns-then-not-has_indexes-clause-opens g c =
       answering = λ clean memory. absurd (let e = memory in cc);
     }
 
-pub returns-then-not-has_indexes-clause-refused : goal.returns-then-not-has_indexes-clause-refused
-returns-then-not-has_indexes-clause-refused g c is =
-    asks_nothing (state g.S.Store c.args.conn.now)
-
-pub returns-then-not-has_indexes-clause-no_desk : goal.returns-then-not-has_indexes-clause-no_desk
-returns-then-not-has_indexes-clause-no_desk g c clean none =
-    inl (sym (c.has_indexes.ensures ∙ ap has_all_indexes c.schema.ensures.value) ∙ c.if-not-has_indexes.true)
-
--- ---- the table of keys is there
-
 pub returns-then-uses_key_table-clause-opens : goal.returns-then-uses_key_table-clause-opens
 returns-then-uses_key_table-clause-opens g c =
     let old = state g.S.Store c.args.conn.now in
@@ -55,29 +45,13 @@ returns-then-uses_key_table-clause-opens g c =
       back = λ settled clean. always_err result (back_asked old new reads.asks settled clean);
       left = left_asked old new reads.asks;
       spared = λ memory. reads.asks.survives;
-      whole = λ clean. of_answer result (λ shows uses. whole_by g.S.Store c.args.conn.now indexes shows) (reads.shown clean);
+      whole = λ clean. on_ok_weaker result (λ shows uses. whole_by g.S.Store c.args.conn.now indexes shows) (reads.shown clean);
       whole_first = λ clean. always_ok result (λ lacks. not_both _ _ refl uses lacks);
       desk = reads.desk;
       first = λ clean. any_fault _ result (λ why T has. not_both _ _ refl uses (lacks_keys _ has.desk.holds.schema));
       failed = asked_to_open g.S.Store c.args.conn.now c.check_rows.new.conn result reads.asks reads.met;
       answering = reads.answering;
     }
-
-pub returns-then-uses_key_table-clause-refused : goal.returns-then-uses_key_table-clause-refused
-returns-then-uses_key_table-clause-refused g c is =
-    c.check_rows.ensures.asks
-
-pub returns-then-uses_key_table-clause-no_newer : goal.returns-then-uses_key_table-clause-no_newer
-returns-then-uses_key_table-clause-no_newer g c = c.check_rows.ensures.no_newer
-
-pub returns-then-uses_key_table-clause-no_desk : goal.returns-then-uses_key_table-clause-no_desk
-returns-then-uses_key_table-clause-no_desk g c clean none =
-    inr (inl (
-      sym (c.uses_key_table.ensures ∙ ap uses_key_table c.schema-2.ensures.value) ∙ c.if-uses_key_table.true,
-      c.check_rows.ensures.no_desk clean none,
-    ))
-
--- ---- it is not
 
 pub returns-else-uses_key_table-clause-opens : goal.returns-else-uses_key_table-clause-opens
 returns-else-uses_key_table-clause-opens g c =
@@ -95,16 +69,9 @@ returns-else-uses_key_table-clause-opens g c =
       left = survives_weaker old new _ _ (λ clean trees desk. record { first = lacks; desk = desk }) upgrade.left;
       spared = upgrade.spared;
       whole = λ clean. always_ok result (λ uses. not_both _ _ refl uses lacks);
-      whole_first = λ clean. of_answer result (λ shows lacks. whole_first_by g.S.Store c.args.conn.now indexes shows) (upgrade.shown clean);
+      whole_first = λ clean. on_ok_weaker result (λ shows lacks. whole_first_by g.S.Store c.args.conn.now indexes shows) (upgrade.shown clean);
       desk = λ clean. any_fault _ result (λ why T has. not_both _ _ refl (uses_keys _ has.desk.holds.schema) lacks);
       first = upgrade.desk;
       failed = upgrade.failed;
       answering = upgrade.answering;
     }
-
-pub returns-else-uses_key_table-clause-no_desk : goal.returns-else-uses_key_table-clause-no_desk
-returns-else-uses_key_table-clause-no_desk g c clean none =
-    inr (inr (
-      sym (c.uses_key_table.ensures ∙ ap uses_key_table c.schema-2.ensures.value) ∙ c.if-uses_key_table.false,
-      c.upgrade_desk.ensures.no_desk clean none,
-    ))

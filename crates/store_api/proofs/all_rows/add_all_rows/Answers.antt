@@ -1,4 +1,4 @@
-use Rattle.std.proofs.Common.{◌≡◌, ℕ, true, filter, List, [], ◌∷◌, ap, refl, arith, rules}
+use Rattle.std.proofs.Common.{◌≡◌, ℕ, true, filter, List, [], ◌∷◌, ap, refl, rules}
 use Rattle.model_laws.specs.{Ordered.Ascends, Placing.puts}
 use Rattle.model_laws.proofs.RowLists.{puts_ascending}
 use Rattle.store_api.proofs.Found.{fails_behind, finds_as, finds_fourth, finds_put, finds_then}
@@ -37,9 +37,6 @@ returns g c =
       authorizations = all_put (λ (a : AuthorizationRow). a.number) _ _ _ ordered.authorizations.0 authorizations none.authorizations;
       orders = all_put (λ (o : OrderRow). o.number) _ _ _ ordered.orders.0 orders none.orders;
     })
-
-pub returns-in_err-add_found : goal.returns-in_err-add_found
-returns-in_err-add_found g c = grind arith
 
 pub returns-in_err-add_found-2 : goal.returns-in_err-add_found-2
 returns-in_err-add_found-2 g c = fails_behind _ (finds_as c.in_ok-add_found.was

@@ -1,12 +1,5 @@
 use Rattle.store_api.proofs.Readings.{reads_failing, reads_then, unchanged_read}
 use Rattle.store_api.proofs.enough.order_work_book.Goals as goal
-use Rattle.std.proofs.Common.{arith, rules}
-
-pub returns-clause-reads : goal.returns-clause-reads
-returns-clause-reads g c = grind arith
-
-pub returns-clause-found : goal.returns-clause-found
-returns-clause-found g c = search rules
 
 pub returns-in_err-add_processing-clause-reads : goal.returns-in_err-add_processing-clause-reads
 returns-in_err-add_processing-clause-reads g c =

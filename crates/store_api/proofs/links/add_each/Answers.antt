@@ -1,5 +1,5 @@
 use Rattle.std.proofs.Common.{add-one, ap, arith, drop-cons}
-use Rattle.store_api.proofs.{Found.fails_behind, Found.finds_then, Gathered.gathered}
+use Rattle.store_api.proofs.{Found.finds_then, Gathered.gathered}
 use Rattle.store_api.proofs.links.add_each.Goals as goal
 
 pub loop-item-preserved : goal.loop-item-preserved
@@ -8,6 +8,3 @@ loop-item-preserved g c =
     (finds_then _ c.loop-item.invariant c.in_ok-add_rows.ensures (λ T so_far put_now.
     gathered g.R.Row.number (g.Q.LeadsTo.rows_of T) _ _ _ _ _ _ _ (drop-cons c.args.items.now c.loop-item.item-index _ (omega arith))
     (ap (g.Q.LeadsTo.rows_of T) c.item-item.is) put_now so_far))
-
-pub returns-in_err-add_rows : goal.returns-in_err-add_rows
-returns-in_err-add_rows g c = fails_behind _ c.loop-item.invariant c.in_err-add_rows.ensures c.from_residual.ensures.1

@@ -2,7 +2,7 @@ use Rattle.std.proofs.Common.{ap, map, ◌∙◌, ◌++◌, []}
 use Rattle.model_laws.specs.Placing.{puts}
 use Rattle.identifiers.specs.Parsed.{ask_of}
 use Rattle.store_api.proofs.MinimalRows.{movable_are, opened_are, restated_are, holders_missing, named_missing}
-use Rattle.store_api.proofs.Found.{fails_behind, finds_both, finds_failing, finds_fourth}
+use Rattle.store_api.proofs.Found.{fails_behind, finds_both, finds_fourth}
 use Rattle.store_api.proofs.{Gathered.put_into_none, Lacking.needed_authorizations, Lacking.needed_orders}
 use Rattle.std.specs.{List.flat_map, Prelude.if◌then◌else◌, Prelude.not}
 use Rattle.desk_model.specs.{Derived.numbers_of, Tables.Tables, declared.objects.Nonce.Nonce, declared.rows.AccountRow.AccountRow}
@@ -56,12 +56,6 @@ returns g c =
           (puts order (if not (is.listed i) then flat_map (orders_numbered T) (is.named.order i) else []) (opens i)))
           ∙ needed_orders T m ask ordered;
     })
-
-pub returns-in_err-add_nonces : goal.returns-in_err-add_nonces
-returns-in_err-add_nonces g c = finds_failing _ c.in_err-add_nonces.ensures c.from_residual.ensures.1
-
-pub returns-in_err-add_holders : goal.returns-in_err-add_holders
-returns-in_err-add_holders g c = fails_behind _ c.in_ok-add_nonces.ensures c.in_err-add_holders.ensures c.from_residual-in_err-add_holders.ensures.1
 
 pub returns-in_err-add_statuses : goal.returns-in_err-add_statuses
 returns-in_err-add_statuses g c =

@@ -1,5 +1,5 @@
 use Rattle.std.proofs.Common.{add-one, ap, arith, drop-cons}
-use Rattle.store_api.proofs.{Found.fails_behind, Found.finds_then, Gathered.gathered}
+use Rattle.store_api.proofs.{Found.finds_then, Gathered.gathered}
 use Rattle.desk_model.specs.declared.rows.AuthorizationRow.{AuthorizationRow}
 use Rattle.model_lives.specs.Loaded.{authorizations_for}
 use Rattle.store_api.proofs.named.add_named.Goals as goal
@@ -10,6 +10,3 @@ loop-name-preserved g c =
     (finds_then _ c.loop-name.invariant c.in_ok-add_for.ensures (λ T so_far put_now.
     gathered (λ (r : AuthorizationRow). r.number) (authorizations_for T c.args.account) _ _ _ _ _ _ _
     (drop-cons c.args.names.now c.loop-name.name-index _ (omega arith)) (ap (authorizations_for T c.args.account) c.name-item.is) put_now so_far))
-
-pub returns-in_err-add_for : goal.returns-in_err-add_for
-returns-in_err-add_for g c = fails_behind _ c.loop-name.invariant c.in_err-add_for.ensures c.from_residual.ensures.1

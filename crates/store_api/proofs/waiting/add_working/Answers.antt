@@ -1,15 +1,14 @@
-use Rattle.std.proofs.Common.{ap, map, subst, sym, ◌∙◌, [], ◌∷◌, ◌≡◌}
-use Rattle.std.proofs.lemmas.Simd.{map-map}
+use Rattle.std.proofs.{Common.ap, Common.map, Common.subst, Common.sym, Common.◌∙◌, Common.[], Common.◌∷◌, Common.◌≡◌, lemmas.Simd.map-map}
 use Rattle.std.specs.List.{list_any}
 use Rattle.desk_model.specs.declared.rows.AuthorizationRow.{AuthorizationRow}
 use Rattle.model_laws.proofs.Basics.{each-map}
 use Rattle.model_laws.specs.Ordered.{Ascends}
 use Rattle.model_lives.specs.LookUps.{bare_authorizations}
-use Rattle.store_api.proofs.WaitingRows.{nested_working, numbered, working_ascend}
-use Rattle.store_api.proofs.{Bare.bare_working, Found.finds_then, Missing.lacking_missings, Readings.reads_unchanged, Readings.unchanged_here}
-use Rattle.store_api.proofs.waiting.add_working.Goals as goal
+use Rattle.store_api.proofs.{WaitingRows.nested_working, WaitingRows.numbered, WaitingRows.working_ascend, Lacking.bare_working, Found.finds_then}
+use Rattle.store_api.proofs.{Missing.lacking_missings, Readings.reads_unchanged, Readings.unchanged_here}
 use Rattle.store_api.specs.{Needing.lacking, Needing.missings, Nesting.nested}
 use Rattle.store_columns.specs.declared.columns.JoinedChallenge.{JoinedChallenge}
+use Rattle.store_api.proofs.waiting.add_working.Goals as goal
 
 pub returns : goal.returns
 returns g c =

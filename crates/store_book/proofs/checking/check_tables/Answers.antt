@@ -1,4 +1,4 @@
-use Rattle.std.proofs.Common.{◌≡◌, ℕ, List, [], ◌∷◌, map, refl, ap, ◌∙◌, arith, rules}
+use Rattle.std.proofs.Common.{◌≡◌, ℕ, List, [], ◌∷◌, map, refl, ap, ◌∙◌, rules}
 use Rattle.std.proofs.lemmas.Result.{err_from_is_err_and}
 use Rattle.model_laws.proofs.RowLists.{ascends_map}
 use Rattle.model_laws.specs.Ordered.{Ascends}
@@ -17,15 +17,6 @@ rises number xs up = ascends_map number (λ n. n) number (λ x. refl) 1 xs up
 -- what holds of these holds of their equals
 same_three : {A B C : Type 0} (P : A → B → C → Type 0) {a d : A} {b e : B} {x y : C} → a ≡ d → b ≡ e → x ≡ y → P d e y → P a b x
 same_three P p q r h = rw (p, q, r) h
-
-pub returns-in_err-last : goal.returns-in_err-last
-returns-in_err-last c = grind arith
-
-pub returns-in_err-check_rows : goal.returns-in_err-check_rows
-returns-in_err-check_rows c = grind arith
-
-pub returns-in_err-accounts : goal.returns-in_err-accounts
-returns-in_err-accounts c = grind arith
 
 pub returns-in_err-orders : goal.returns-in_err-orders
 returns-in_err-orders c =
@@ -71,9 +62,3 @@ returns-in_err-answered c =
     (ap (λ k. k.last) c.new-check-6.ensures.counter ∙ ap (λ k. k.challenges) last)
     (c.new-check-6.ensures.authorizations ∙ c.in_ok-authzs.ensures.1 ∙ ap (map (λ a. a.number)) c.as_slice-5.ensures) c.as_slice-7.ensures
     (rises (λ (a : AuthorizationRow). a.number) c.args.rows.now.authorizations are.authorizations.table.0, are.challenges)))
-
-pub returns-in_err-check_rows-3 : goal.returns-in_err-check_rows-3
-returns-in_err-check_rows-3 c = grind arith
-
-pub returns : goal.returns
-returns c = grind arith

@@ -1,13 +1,10 @@
-use Rattle.std.proofs.Common.{◌≡◌, sym, subst, subst₂, ◌∙◌, arith}
+use Rattle.std.proofs.Common.{◌≡◌, sym, subst, subst₂, ◌∙◌}
 use Rattle.model_laws.specs.Ordered.{Ascends}
 use Rattle.desk_model.specs.{declared.objects.Nonce.Nonce, declared.rows.AccountRow.AccountRow, declared.rows.AuthorizationRow.AuthorizationRow}
 use Rattle.desk_model.specs.{declared.rows.ChallengeRow.ChallengeRow, declared.rows.Listed.Listed, declared.rows.OrderRow.OrderRow}
 use Rattle.store_book.specs.{IsBook.IsBookOf, Joining.joined, Nesting.IsNestOf}
 use Rattle.store_book.proofs.InOrder.{authorizations_nest, book, orders_nest, tables_of}
 use Rattle.store_book.proofs.stored_book.book_of_rows.Goals as goal
-
-pub returns-in_err-meta : goal.returns-in_err-meta
-returns-in_err-meta c = grind arith
 
 pub table_of-requires : goal.table_of-requires
 table_of-requires c = subst (Ascends (λ (n : Nonce). n.serial) 1) (sym c.into_vec.ensures) c.requires.passed.1.nonces.0

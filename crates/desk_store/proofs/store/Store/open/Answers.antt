@@ -4,12 +4,6 @@ use Rattle.desk_store.specs.{Desks.IsDesk, Known.IsKnownOf}
 use Rattle.desk_store.proofs.{EitherFormat.keeps_second, EitherFormat.uses_keys, Knowing.nothing_known, NothingWritten.desk_unchanged, NothingWritten.failed}
 use Rattle.desk_store.proofs.store.Store.open.Goals as goal
 
-pub returns-in-Ok-clause-asks : goal.returns-in-Ok-clause-asks
-returns-in-Ok-clause-asks g c = c.open_desk.ensures.opens.asks
-
-pub returns-in-Ok-clause-unchanged : goal.returns-in-Ok-clause-unchanged
-returns-in-Ok-clause-unchanged g c = c.in-Ok.ensures.opens.unchanged
-
 pub returns-in-Ok-clause-kept : goal.returns-in-Ok-clause-kept
 returns-in-Ok-clause-kept g c clean T has =
     let old = state g.S.Store c.args.conn in
@@ -30,18 +24,6 @@ pub returns-in-Ok-clause-upgraded : goal.returns-in-Ok-clause-upgraded
 returns-in-Ok-clause-upgraded g c clean T has =
     keeps_second g.S.Store (state g.S.Store c.args.conn) (record { conn = c.open_desk.new.conn; known = c.nothing.result }) T
     (subst (λ k. IsKnownOf k T) (sym c.nothing.ensures) (nothing_known T)) has (c.in-Ok.ensures.opens.upgraded clean T has)
-
-pub returns-in-Ok-clause-left : goal.returns-in-Ok-clause-left
-returns-in-Ok-clause-left g c = c.open_desk.ensures.opens.left
-
-pub returns-in-Ok-clause-whole : goal.returns-in-Ok-clause-whole
-returns-in-Ok-clause-whole g c = c.in-Ok.ensures.opens.whole
-
-pub returns-in-Ok-clause-whole_first : goal.returns-in-Ok-clause-whole_first
-returns-in-Ok-clause-whole_first g c = c.in-Ok.ensures.opens.whole_first
-
-pub returns-in-Ok-clause-later : goal.returns-in-Ok-clause-later
-returns-in-Ok-clause-later g c later clean = c.in-Ok.ensures.later clean later
 
 pub returns-in-Err : goal.returns-in-Err
 returns-in-Err g c =

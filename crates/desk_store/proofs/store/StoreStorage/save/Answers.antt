@@ -1,9 +1,8 @@
 use Rattle.std.proofs.Common.{List, subst}
-use Rattle.std.specs.Prelude.{IfErr, false, ◌≡◌}
 use Rattle.desk_model.specs.declared.rows.Change.{Change}
 use Rattle.sql_write.specs.Stored.{IsPartOf}
 use Rattle.store_api.specs.Storing.{IsCutFrom, SavesOf}
-use Rattle.desk_store.specs.{Causes.FailedToChange, Desks.store_sight}
+use Rattle.desk_store.specs.Desks.{store_sight}
 use Rattle.desk_store.proofs.SavedDesks.{part_found, saves_of}
 use Rattle.desk_store.proofs.store.StoreStorage.save.Goals as goal
 
@@ -16,9 +15,3 @@ returns-clause-saves g c =
     subst (λ (cs : List Change). SavesOf (store_sight g.S.Store) (IsCutFrom part) cs old new r) c.as_slice.ensures.value
     (saves_of (store_sight g.S.Store) (IsPartOf part) (IsCutFrom part) c.as_slice.result.now old new r
     (λ T cut has. part_found part T cut has.desk.desk.holds.rising) c.save.ensures.saves)
-
-pub returns-clause-caused : goal.returns-clause-caused
-returns-clause-caused g c =
-    subst (λ (cs : List Change). IfErr c.save.result (λ why. c.args.self.now.conn.in_transaction ≡ false
-    → FailedToChange g.S.Store c.args.part.now cs c.args.self.now.conn c.save.new.self.conn why)) c.as_slice.ensures.value
-    c.save.ensures.failed

@@ -1,6 +1,5 @@
-use Rattle.store_book.proofs.Steps.{counts_on, kept_more, up_to_more}
+use Rattle.store_book.proofs.Steps.{kept_more, up_to_more}
 use Rattle.store_book.proofs.accounts.AccountCheckRowCheckAccountColumns.passes.Goals as goal
-use Rattle.std.proofs.Common.{rules}
 
 pub returns-clause-passed : goal.returns-clause-passed
 returns-clause-passed c _ first rows so_far = (
@@ -9,6 +8,3 @@ returns-clause-passed c _ first rows so_far = (
   kept_more (λ a. a.key) rows c.args.row.now c.args.self.now.keys.items _
       (let item = c.in_ok-push-2.ensures.items in let clone = c.in_ok-clone.ensures in cc) so_far.2,
 )
-
-pub returns-then-not-passes-clause-fine : goal.returns-then-not-passes-clause-fine
-returns-then-not-passes-clause-fine c first rows rest so_far are = search (rules, counts_on)
