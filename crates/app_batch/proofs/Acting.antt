@@ -3,10 +3,9 @@ use Rattle.std.proofs.Common.{ℕ, List, Result, Ok, Err, inl, inr}
 use Rattle.desk_model.specs.declared.reply.Reply.{Reply}
 use Rattle.store_api.specs.Sight.{Sight}
 use Rattle.desk.specs.{Meets.ActsOnce, State.DeskState, declared.fault.DeskFault.DeskFault}
-use Rattle.http_routes.specs.declared.{lines.Line.Line, request.Request.Request}
+use Rattle.http_routes.specs.{declared.lines.Line.Line, declared.request.Request.Request}
+use Rattle.app_batch.specs.{LineRequests.call_of, declared.fault.AnswerFault.AnswerFault, Said.Answered, Said.DeclinesTo, Said.RepliesTo}
 use Rattle.http_routes.specs.declared.request.Request.TheVariants as request
-use Rattle.app_batch.specs.{LineRequests.call_of, declared.fault.AnswerFault.AnswerFault}
-use Rattle.app_batch.specs.Said.{Answered, DeclinesTo, LacksMemory, RepliesTo, SaysNothing}
 use Rattle.app_batch.specs.declared.fault.AnswerFault.TheVariants as answerfault
 
 module _ {S C : Type 0} (v : Sight S C) where
@@ -22,19 +21,11 @@ module _ {S C : Type 0} (v : Sight S C) where
   declines_act old new l (request.Looks asked) why is = absurd is
   declines_act old new l (request.Refused refusal) why is = absurd is
 
-  -- memory was refused, before the desk answered or after
-  lacks_acts : (old new : DeskState S) (bytes : List ℕ) → LacksMemory v old bytes new → ActsOnce v old new
-  lacks_acts old new bytes (inl same) = inl same
-  lacks_acts old new bytes (inr is) = replies_act old new is.1.line is.1.request is.0 is.1.replies
-
-  -- nothing is said
-  silence_acts : (old new : DeskState S) (bytes : List ℕ) (why : AnswerFault) → SaysNothing v old bytes why new → ActsOnce v old new
-  silence_acts old new bytes answerfault.NotACall is = inl (is.1)
-  silence_acts old new bytes (answerfault.Desk why) is = declines_act old new is.line is.request why is.declines
-  silence_acts old new bytes answerfault.Memory is = lacks_acts old new bytes is
-
   -- whatever becomes of it
   pub line_acts : {V : Type 0} (items : V → List ℕ) (old new : DeskState S) (bytes : List ℕ) (result : Result V AnswerFault)
       → Answered v items old bytes result new → ActsOnce v old new
   line_acts items old new bytes (Ok said) is = replies_act old new is.1.line is.1.request is.0 is.1.replies
-  line_acts items old new bytes (Err why) is = silence_acts old new bytes why is
+  line_acts items old new bytes (Err answerfault.NotACall) is = inl (is.1)
+  line_acts items old new bytes (Err (answerfault.Desk why)) is = declines_act old new is.line is.request why is.declines
+  line_acts items old new bytes (Err answerfault.Memory) (inl same) = inl same
+  line_acts items old new bytes (Err answerfault.Memory) (inr is) = replies_act old new is.1.line is.1.request is.0 is.1.replies

@@ -1,10 +1,9 @@
 -- Lines that are answered, one after the other.
-use Rattle.std.proofs.Common.{◌≡◌, ◌≢◌, ℕ, List, [], ◌∷◌, ◌++◌, Option, None, Some, Result, Ok, Err, ◌∙◌, ap, refl, sym, subst}
+use Rattle.std.proofs.Common.{arith, ◌≡◌, ◌≢◌, ℕ, List, [], ◌∷◌, ◌++◌, Option, None, Some, Result, Ok, Err, ◌∙◌, refl, sym, subst}
 use Rattle.std.proofs.KnownBytes.{Appends-nil, Appends-trans}
-use Rattle.std.specs.Prelude.{◌==◌, if◌then◌else◌, IfErr, IfOk, IfSome, IsErr, OnOk, unwrap_or}
-use Rattle.std.specs.Io.Buffered.{reader_buffer, reader_capacity, reader_inner, reader_remaining}
-use Rattle.std.specs.{Io.BufRead.DropsThrough, Io.BufRead.drop_through, Io.BufRead.first_piece, Io.KnownBytes.Appends, Io.KnownBytes.IsAtEnd}
-use Rattle.std.specs.{Io.KnownBytes.prepend_known, declared.io.buffered.BufReader.BufReader}
+use Rattle.std.specs.{Prelude.IfErr, Prelude.IfOk, Prelude.IfSome, Prelude.IsErr, Prelude.OnOk, Prelude.unwrap_or, Io.KnownBytes.Appends, Io.KnownBytes.IsAtEnd}
+use Rattle.std.specs.{Io.Buffered.reader_buffer, Io.Buffered.reader_inner, Io.BufRead.DropsThrough, Io.BufRead.drop_through, Io.BufRead.first_piece}
+use Rattle.std.specs.{Io.Buffered.reader_capacity, Io.Buffered.reader_remaining, Io.KnownBytes.prepend_known, declared.io.buffered.BufReader.BufReader}
 use Rattle.app_batch.specs.InTurn.{AnswersEach, AnswersFirst, AnswersLine, AnswersLines, AreLines, IsNextLine, Stops, StopsBehind, no_line, not_one}
 use Rattle.app_batch.specs.InTurn.{one_line_more, one_more, silent, unwritten}
 use Rattle.app_batch.specs.{Said.Answered, Said.Says, declared.fault.AnswerFault.AnswerFault}
@@ -26,8 +25,7 @@ pub record IsReadTo (bytes now : Option (List ℕ)) (lines : List (List ℕ)) (l
 pub remaining_anew : {T A : Type 0} (remaining : T → Option (List ℕ)) (r : BufReader T A) (inner : T) → reader_inner r ≡ inner → reader_buffer r ≡ []
     → reader_capacity r ≡ 8192 → reader_remaining remaining r ≡ remaining inner
 remaining_anew remaining r inner same empty capacity =
-    ap (λ n. if n == 0 then None else prepend_known (reader_buffer r) (remaining r.inner)) capacity
-    ∙ ap (λ bs. prepend_known bs (remaining r.inner)) empty ∙ prepend_nothing (remaining r.inner) ∙ ap remaining same
+    grind (arith, prepend_nothing)
 
 -- nothing was read yet
 pub read_nothing : (bytes now : Option (List ℕ)) → now ≡ bytes → IsReadTo bytes now [] (unwrap_or bytes [])
@@ -38,20 +36,12 @@ read_nothing (Some xs) now same = record { read = no_line; unread = same }
 pub read_more : (bytes now next : Option (List ℕ)) (lines : List (List ℕ)) (left line : List ℕ) → IsReadTo bytes now lines left
     → IfSome now (λ xs. (xs ≢ []) × (line ≡ first_piece 10 xs)) → DropsThrough now next 10
     → IsReadTo bytes next (lines ++ line ∷ []) (drop_through 10 left)
-read_more None now next lines left line before some rest = record { read = tt; unread = tt }
-read_more (Some bytes) None next lines left line before some rest = absurd (cc (before.unread))
-read_more (Some bytes) (Some xs) next lines left line before some rest =
-    let same : xs ≡ left = cc (before.unread) in
-    rw (some.1, same) (record { read = one_line_more (before.read) (rw same at some.0); unread = rw same at rest })
+read_more bytes now next lines left line before some rest = grind (arith, one_line_more)
 
 -- the line that was read is the first of those that are left
 pub read_next : (bytes now : Option (List ℕ)) (lines : List (List ℕ)) (left line : List ℕ) → IsReadTo bytes now lines left
     → IfSome now (λ xs. (xs ≢ []) × (line ≡ first_piece 10 xs)) → IsNextLine bytes left line
-read_next None now lines left line before some = tt
-read_next (Some bytes) None lines left line before some = absurd (cc (before.unread))
-read_next (Some bytes) (Some xs) lines left line before some =
-    let same : xs ≡ left = cc (before.unread) in
-    subst (λ l. (l ≢ []) × (line ≡ first_piece 10 l)) same some
+read_next bytes now lines left line before some = grind arith
 
 -- ---- the desk and the writer
 
@@ -128,5 +118,4 @@ module _ {S C : Type 0} (v : Sight S C) where
   -- and so is the result that tells it
   pub told_stop : {E : Type 0} (bytes was is : Option (List ℕ)) (old new : DeskState S) (result : Result Unit E) → IsErr result
       → StopsBehind v bytes was is old new → AnswersLines v bytes was is old new result
-  told_stop bytes was is old new (Ok done) failed s = absurd (cc failed)
-  told_stop bytes was is old new (Err why) failed s = s
+  told_stop bytes was is old new result failed s = grind arith

@@ -13,6 +13,7 @@ use std::alloc::{AllocError, Global};
 /// # Errors
 ///
 /// Where there is no memory for it.
+#[tactic(auto, using(crate::proofs::Asking::asks_by_bytes))]
 pub(crate) fn request_of(
     alloc: Global,
     routes: &mut Routes,

@@ -124,6 +124,7 @@ pub fn batch<K: Storage + Drop, R: Read + Drop, W: Write, E: Write>(
 }
 
 // Answers the lines of a reader, up to the first that is not answered.
+#[tactic(auto, using(crate::proofs::Turning::answered_all, crate::proofs::Turning::answered_more, crate::proofs::Turning::answered_none, crate::proofs::Turning::read_next, crate::proofs::Turning::remaining_anew, desk::proofs::SeeingDesks::same_policy, desk::proofs::SeeingDesks::seen_once_more, desk::proofs::SeeingDesks::seen_untouched, crate::proofs::Turning::stops_behind, crate::proofs::Turning::told_stop))]
 fn answer_lines<K: Storage + Drop, R: Read + Drop, W: Write>(
     alloc: Global,
     reader: R,
@@ -180,6 +181,7 @@ fn strip_end(line: &mut Vec<u8>)
 }
 
 // Answers the line of this number, from 1.
+#[tactic(auto, using(crate::proofs::Acting::line_acts, crate::proofs::Turning::line_answered))]
 fn answer_line<K: Storage + Drop, W: Write>(
     alloc: Global,
     routes: &mut Routes,

@@ -5,7 +5,7 @@ use Rattle.std.proofs.{KnownBytes.Appends-nil, KnownBytes.Appends-trans, lemmas.
 use Rattle.std.proofs.{lemmas.List.take-append-le, lemmas.List.take_all, lemmas.List.Concat.flat_map-append, lemmas.List.Elements.filter-append}
 use Rattle.std.specs.{Io.KnownBytes.Appends, List.flat_map, Prelude.Option}
 use Rattle.app_page.specs.Page.{IsShown, ShowsFirst, if_room}
-use Rattle.app_reports.proofs.SoFar.{SoFar, all_so, more_so, none_so}
+use Rattle.app_reports.proofs.SoFar.{SoFar, more_so, none_so}
 
 -- of one more the first ones are one more, where there is room
 take_room : {X : Type 0} (n : ℕ) (xs : List X) (x : X) → take n (xs ++ x ∷ []) ≡ take n xs ++ cond (nat_lt (length xs) n) (x ∷ []) []
@@ -72,8 +72,3 @@ module _ {X : Type 0} (wanted : X → Bool) (html : X → List ℕ) where
       rows left (row ∷ []) rest so_far follows
       (λ seen shown. subst (λ l. ShowsFirst html was is l next) (sym (filter-append wanted seen (row ∷ [])))
       (first_turn was mid is (filter wanted seen) row (wanted row) count next shown turn))
-
-  -- all
-  pub shows_all : (was is : Option (List ℕ)) (rows left : List X) (count : ℕ) → ShowsSoFar was is rows left count → left ≡ []
-      → ShowsFirst html was is (filter wanted rows) count
-  shows_all was is rows left count = all_so (λ seen. ShowsFirst html was is (filter wanted seen) count) rows left

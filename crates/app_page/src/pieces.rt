@@ -78,6 +78,7 @@ fn write_challenge<W: Write>(out: &mut W, row: &ChallengeRow) -> io::Result<()>
 }
 
 /// Writes what a cell lists, one after the other.
+#[tactic(auto, using(crate::proofs::Writing::writes_each, crate::proofs::Writing::writes_next, crate::proofs::Writing::writes_nothing))]
 pub(crate) fn write_pieces<P: Piece, W: Write>(
     alloc: Global,
     out: &mut W,

@@ -44,6 +44,7 @@ pub(crate) fn write_table<R: PageRow, Q: Query<R>, K: RowsAbove, W: Write>(
 }
 
 // Writes the first rows above a number that are asked for, and gives how many there are in all.
+#[tactic(auto, using(app_reports::proofs::Reporting::report_failed, crate::proofs::Showing::shows_none, crate::proofs::Showing::shows_turn, store_api::proofs::Readings::unchanged_then))]
 fn write_rows<R: PageRow, Q: Query<R>, K: RowsAbove, W: Write>(
     alloc: Global,
     source: &mut K,

@@ -1,9 +1,9 @@
 -- Rows that were counted so far.
-use Rattle.std.proofs.Common.{◌≡◌, ◌∙◌, ◌++◌, ◌+◌, ◌-◌, ◌^◌, List, [], ◌∷◌, ℕ, Bool, true, false, ap, append-nil, arith, cond, filter, length, length-append}
+use Rattle.std.proofs.Common.{◌≡◌, ◌∙◌, ◌++◌, ◌+◌, ◌-◌, ◌^◌, List, [], ◌∷◌, ℕ, ap, append-nil, arith, cond, filter, length, length-append}
 use Rattle.std.proofs.Common.{min, refl, replicate, zero, suc, sym}
 use Rattle.std.proofs.lemmas.List.Elements.{filter-append}
 use Rattle.std.specs.Prelude.{◌==◌, slice_index}
-use Rattle.app_reports.proofs.SoFar.{SoFar, all_so, more_so, none_so}
+use Rattle.app_reports.proofs.SoFar.{SoFar, more_so, none_so}
 use Rattle.app_reports.specs.Tallied.{IsTally, tally_of}
 
 -- of numbers that are all 0 each is
@@ -16,13 +16,7 @@ module _ {X : Type 0} (place : X → ℕ) where
   -- how many there are of a place, with one more
   more_of : (k : ℕ) (rows : List X) (row : X) →
       tally_of place (rows ++ row ∷ []) k ≡ cond (place row == k) (min (tally_of place rows k + 1) (2 ^ 64 - 1)) (tally_of place rows k)
-  more_of k rows row =
-      ap (λ l. min (length l) (2 ^ 64 - 1)) (filter-append (λ r. place r == k) rows (row ∷ [])) ∙ by (place row == k)
-    where
-      by : (b : Bool) → min (length (filter (λ r. place r == k) rows ++ cond b (row ∷ []) [])) (2 ^ 64 - 1)
-          ≡ cond b (min (tally_of place rows k + 1) (2 ^ 64 - 1)) (tally_of place rows k)
-      by true = let more = length-append (filter (λ r. place r == k) rows) (row ∷ []) in omega (arith, more)
-      by false = ap (λ l. min (length l) (2 ^ 64 - 1)) (append-nil (filter (λ r. place r == k) rows))
+  more_of k rows row = grind (arith, min, length, filter-append, filter, cond, length-append, append-nil)
 
   -- the rows before those that are left were counted
   abbrev pub CountsSoFar : (rows left : List X) → List ℕ → Type 0
@@ -39,7 +33,3 @@ module _ {X : Type 0} (place : X → ℕ) where
   counts_more rows left rest row counts next so_far follows raised =
       more_so (λ seen. IsTally place seen counts) (λ seen. IsTally place seen next) rows left (row ∷ []) rest so_far follows
       (λ seen tally k. raised k ∙ ap (λ n. cond (place row == k) (min (n + 1) (2 ^ 64 - 1)) n) (tally k) ∙ sym (more_of k seen row))
-
-  -- all were
-  pub counts_all : (rows left : List X) (counts : List ℕ) → CountsSoFar rows left counts → left ≡ [] → IsTally place rows counts
-  counts_all rows left counts = all_so (λ seen. IsTally place seen counts) rows left

@@ -1,16 +1,14 @@
 -- Rows that were listed so far.
-use Rattle.std.proofs.Common.{◌≡◌, ◌++◌, ◌+◌, ◌-◌, ◌^◌, List, [], ◌∷◌, ℕ, ap, append-nil, arith, inl, inr, length, length-append, min, refl, subst, sym}
+use Rattle.std.proofs.Common.{◌≡◌, ◌++◌, ◌+◌, ◌-◌, ◌^◌, List, [], ◌∷◌, ℕ, ap, append-nil, arith, inl, inr, length, length-append, min, refl}
 use Rattle.std.proofs.{KnownBytes.Appends-nil, KnownBytes.Appends-trans, lemmas.List.Concat.flat_map-append}
-use Rattle.std.specs.{Io.KnownBytes.Appends, List.flat_map, Prelude.Option}
+use Rattle.std.specs.Prelude.{Option}
 use Rattle.app_reports.specs.{Filter.AreKept, Listed.Prints, Listed.Turns}
-use Rattle.app_reports.proofs.SoFar.{SoFar, all_so, more_so, none_so}
+use Rattle.app_reports.proofs.SoFar.{SoFar, more_so, none_so}
 
 -- the count, with one more
 counted_more : {X : Type 0} (count next : ℕ) (listed : List X) (row : X) → count ≡ min (length listed) (2 ^ 64 - 1)
     → next ≡ min (count + 1) (2 ^ 64 - 1) → next ≡ min (length (listed ++ row ∷ [])) (2 ^ 64 - 1)
-counted_more count next listed row was is =
-    let more : length (listed ++ row ∷ []) ≡ length listed + 1 = length-append listed (row ∷ []) in
-    omega (arith, was, is, more)
+counted_more count next listed row was is = grind (arith, length, length-append)
 
 module _ {X : Type 0} (Keeps : X → Type 0) where
   -- one more row, which is kept
@@ -33,26 +31,12 @@ module _ {X : Type 0} (Keeps : X → Type 0) where
 
     -- none yet
     pub lists_none : (was : Option (List ℕ)) (rows left : List X) → left ≡ rows → ListsSoFar was was rows left 0
-    lists_none was rows left same =
-        none_so (λ seen. Prints Keeps line was was seen 0) rows left same
-        (record { listed = []; kept = refl; written = Appends-nil was; counted = refl })
+    lists_none was rows left same = grind (arith, none_so, Appends-nil)
 
     -- one more, which was written, or was not
     prints_turn : (was mid is : Option (List ℕ)) (seen : List X) (row : X) (count next : ℕ) → Prints Keeps line was mid seen count
         → Turns Keeps line mid is row count next → Prints Keeps line was is (seen ++ row ∷ []) next
-    prints_turn was mid is seen row count next before (inl it) =
-        record {
-          listed = before.listed ++ row ∷ [];
-          kept = kept_more seen before.listed row before.kept it.0;
-          written = subst (Appends was is) (sym (flat_map-append line (before.listed) (row ∷ [])))
-              (Appends-trans was mid is (flat_map line before.listed) (flat_map line (row ∷ [])) before.written
-              (subst (Appends mid is) (sym (append-nil (line row))) it.1));
-          counted = counted_more count next before.listed row before.counted it.2;
-        }
-    prints_turn was mid is seen row count next before (inr it) =
-        subst (λ n. Prints Keeps line was is (seen ++ row ∷ []) n) (sym it.2)
-        (subst (λ o. Prints Keeps line was o (seen ++ row ∷ []) count) (sym it.1)
-        (record { listed = before.listed; kept = passed_more seen before.listed row before.kept it.0; written = before.written; counted = before.counted }))
+    prints_turn was mid is seen row count next before turn = grind (arith, kept_more, flat_map-append, Appends-trans, append-nil, counted_more, passed_more)
 
     -- one more
     pub lists_turn : (was mid is : Option (List ℕ)) (rows left rest : List X) (row : X) (count next : ℕ) → ListsSoFar was mid rows left count
@@ -60,8 +44,3 @@ module _ {X : Type 0} (Keeps : X → Type 0) where
     lists_turn was mid is rows left rest row count next so_far follows turn =
         more_so (λ seen. Prints Keeps line was mid seen count) (λ seen. Prints Keeps line was is seen next) rows left (row ∷ []) rest so_far follows
         (λ seen before. prints_turn was mid is seen row count next before turn)
-
-    -- all
-    pub lists_all : (was is : Option (List ℕ)) (rows left : List X) (count : ℕ) → ListsSoFar was is rows left count → left ≡ []
-        → Prints Keeps line was is rows count
-    lists_all was is rows left count = all_so (λ seen. Prints Keeps line was is seen count) rows left

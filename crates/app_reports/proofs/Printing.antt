@@ -1,7 +1,7 @@
 -- Lines that were written so far.
 use Rattle.std.proofs.{KnownBytes.Appends-trans, lemmas.List.Concat.flat_map-append}
-use Rattle.std.proofs.Common.{◌≡◌, ◌≢◌, ◌↔◌, ◌∙◌, ◌++◌, Bool, true, false, IsTrue, List, [], ◌∷◌, ℕ, ap, append_assoc, append-nil, refl, subst, sym}
-use Rattle.std.specs.{Io.KnownBytes.Appends, Prelude.Option, Prelude.Result, Prelude.Ok, Prelude.Err, Prelude.OnOk}
+use Rattle.std.proofs.Common.{arith, ◌≡◌, ◌≢◌, ◌↔◌, ◌∙◌, ◌++◌, Bool, false, IsTrue, List, [], ◌∷◌, ℕ, ap, append_assoc, append-nil, subst, sym}
+use Rattle.std.specs.{Io.KnownBytes.Appends, Prelude.Option, Prelude.Result, Prelude.OnOk}
 use Rattle.desk_model.specs.declared.rows.StatusFault.{StatusFault}
 use Rattle.app_reports.specs.{Printed.faults_text, Printed.line_of, Printed.lines_of, declared.form.Form.Form}
 use Rattle.app_reports.specs.declared.form.Form.TheVariants as form
@@ -29,19 +29,13 @@ writes_one f was mid is all left rest x so_far next written =
 -- all were
 pub writes_all : (f : Form) (was is : Option (List ℕ)) (all left : List StatusFault) → Writes f was is all left → left ≡ []
     → Appends was is (lines_of f all)
-writes_all f was is all left so_far none =
-    subst (λ l. Appends was is (lines_of f l)) (sym (so_far.1 ∙ ap (λ l. so_far.0 ++ l) none ∙ append-nil (so_far.0))) so_far.2
+writes_all f was is all left so_far none = grind (arith, append-nil)
 
 -- the whole list is its lines, where no line says that there is none
 pub text_without : (f : Form) (faults : List StatusFault) (found : Bool) → IsTrue found ↔ faults ≢ []
     → ((found ≡ false) × (f ≡ form.Text) → ⊥) → faults_text f faults ≡ lines_of f faults
-text_without form.Text [] true tells said = absurd (tells.0 refl refl)
-text_without form.Text [] false tells said = absurd (said (refl, refl))
-text_without form.Text (x ∷ faults) found tells said = refl
-text_without form.Json [] found tells said = refl
-text_without form.Json (x ∷ faults) found tells said = refl
+text_without f faults found tells said = grind arith
 
 -- where a call ended well, what follows from what it then says
 pub on_ok : {X E : Type 0} {P Q : Type 0} (r : Result X E) → (P → Q) → OnOk r P → OnOk r Q
-on_ok (Ok x) f h = f h
-on_ok (Err e) f h = tt
+on_ok r f h = grind arith

@@ -1,5 +1,5 @@
 -- Steps of a search for faults.
-use Rattle.std.proofs.Common.{◌≡◌, ◌≢◌, ◌↔◌, ◌++◌, Bool, true, false, IsTrue, List, [], ◌∷◌, ℕ, ◌+◌, ◌<◌, refl, get_or, drop, length, subst}
+use Rattle.std.proofs.Common.{arith, ◌≡◌, ◌≢◌, ◌↔◌, ◌++◌, Bool, true, false, IsTrue, List, [], ◌∷◌, ℕ, ◌+◌, ◌<◌, refl, get_or, drop, length, subst}
 use Rattle.std.proofs.lemmas.List.{at_drop_more}
 use Rattle.std.specs.List.{flat_map}
 
@@ -37,5 +37,4 @@ turn_passed f kinds i d found below s none =
 
 -- at the end it tells whether there is one
 pub tells : {A : Type 0} (found : Bool) (all : List A) → Searches found all [] → IsTrue found ↔ all ≢ []
-tells true all s = ((λ _. s), (λ _. refl))
-tells false all s = ((λ i. cc i), (λ some. absurd (some s)))
+tells found all s = grind arith

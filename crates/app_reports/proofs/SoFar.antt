@@ -1,5 +1,5 @@
 -- What is so of the rows of a list, as far as they were gone through.
-use Rattle.std.proofs.Common.{◌≡◌, ◌∙◌, ◌++◌, List, [], ap, append_assoc, append-nil, subst, sym}
+use Rattle.std.proofs.Common.{◌≡◌, ◌∙◌, ◌++◌, List, [], ap, append_assoc, sym}
 
 module _ {X : Type 0} where
   -- it is so of the rows before those that are left
@@ -21,7 +21,3 @@ module _ {X : Type 0} where
         all = before.all ∙ ap (λ l. before.seen ++ l) next ∙ sym (append_assoc before.seen part rest);
         so = more before.seen before.so;
       }
-
-  -- of all
-  pub all_so : (P : List X → Type 0) (rows left : List X) → SoFar P rows left → left ≡ [] → P rows
-  all_so P rows left before none = subst P (sym (before.all ∙ ap (λ l. before.seen ++ l) none ∙ append-nil before.seen)) before.so

@@ -102,6 +102,7 @@ fn write_kind<K: RowsAbove, W: Write>(
 }
 
 // Writes a line for each status fault, one kind after the other, and says whether there is one.
+#[tactic(auto, using(std::proofs::lemmas::List::drop_all, store_passes::proofs::Alls::kinds_make_all, crate::proofs::Searching::tells, crate::proofs::Printing::writes_all))]
 fn write_kinds<K: RowsAbove, W: Write>(
     alloc: Global,
     source: &mut K,

@@ -90,6 +90,7 @@ fn write_if_kept<L: RowList, K: LookUps, W: Write>(
 }
 
 // Writes the line of each row that is listed, and gives how many these are.
+#[tactic(auto, using(store_passes::proofs::Rows::all_above, store_passes::proofs::Alls::books_in_order, crate::proofs::Listing::lists_none, crate::proofs::Listing::lists_turn, crate::proofs::Reporting::report_failed, store_api::proofs::Readings::unchanged_then))]
 fn write_kept<L: RowList, K: RowsAbove, W: Write>(
     alloc: Global,
     source: &mut K,
@@ -245,6 +246,7 @@ fn thumbprint_text(alloc: Global, key: &Jwk) -> Result<String, AllocError>
 }
 
 // The text of bytes in base64, in the URL-safe alphabet without padding (RFC 4648, 5).
+#[tactic(auto, unfolding(desk_model::specs::Tokens::base64url))]
 fn url_safe(alloc: Global, bytes: &[u8]) -> Result<String, AllocError>
     ensures { IfOk result (λ text. string_bytes text ≡ base64url bytes.now) }
 {

@@ -40,7 +40,3 @@ module _ {S C : Type 0} (v : Sight S C) (old : S) where
   -- before a report began
   pub unseen : Looks v old old (Err (lookfault.Storage storagefault.Memory))
   unseen = record { honest = λ h. h; left = λ h c may. may; tables = tt; after_fault = λ opens h T has. has }
-
-  -- without one
-  pub unlooked : Looks v old old (Ok tt)
-  unlooked = record { honest = λ h. h; left = λ h c may. may; tables = λ h T has. has; after_fault = tt }

@@ -1,12 +1,8 @@
 -- Bytes that are read of the one and written to the other, in steps.
-use Rattle.std.proofs.Common.{◌≡◌, ℕ, ◌+◌, [], ◌++◌, List, Option, length, arith, subst}
-use Rattle.std.proofs.{lemmas.List.length-append, KnownBytes.Appends-nil, KnownBytes.Appends-trans, KnownBytes.Consumes-nil, KnownBytes.Consumes-trans}
+use Rattle.std.proofs.Common.{◌≡◌, ℕ, ◌+◌, ◌++◌, List, Option, length, arith, subst}
+use Rattle.std.proofs.{lemmas.List.length-append, KnownBytes.Appends-trans, KnownBytes.Consumes-trans}
 use Rattle.std.specs.Io.KnownBytes.{Appends}
 use Rattle.app_tasks.specs.Sending.{Moves, MovesAll, SendsBoth, sizes_line}
-
--- none yet
-pub moves_none : (read was : Option (List ℕ)) (whole : ℕ) → Moves read read was was whole whole
-moves_none read was whole = record { bytes = []; reads = Consumes-nil read; writes = Appends-nil was; count = omega arith }
 
 -- some more
 pub moves_more : {read mid left was between is : Option (List ℕ)} {whole rest more after : ℕ}

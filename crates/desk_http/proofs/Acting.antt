@@ -1,5 +1,5 @@
 -- What serving one request does to a desk: nothing, or what its answer to one call does.
-use Rattle.std.proofs.Common.{ℕ, List, Option, Some, None, Result, Ok, Err, Bool, inl, inr}
+use Rattle.std.proofs.Common.{ℕ, List, Option, Some, None, Result, Ok, Err, Bool, arith, inl, inr}
 use Rattle.std.specs.Prelude.{MatchResult}
 use Rattle.desk_model.specs.declared.{call.Call.Call, reply.Reply.Reply}
 use Rattle.store_api.specs.{Sight.Sight, Storing.Causes}
@@ -10,13 +10,11 @@ use Rattle.http_wire.specs.declared.call.ReplyForm.{ReplyForm}
 use Rattle.desk_http.specs.Serving.{Breaks, CutOffBy, Fails, HasAnswer, IsAnswer, Responds, Serves, ServesBy, call_of}
 use Rattle.desk_http.specs.declared.{serving.Unanswered.Unanswered, serving.IoFault.IoFault, serving.Served.Served, overseeing.ReplySummary.ReplySummary}
 use Rattle.desk_http.specs.declared.serving.Unanswered.TheVariants as cause
-use Rattle.desk_http.specs.declared.serving.IoFault.TheVariants as iofault
 
 module _ {S C : Type 0} (v : Sight S C) (causes : Causes S) where
   -- as a desk answers a call
   meets : (call : Call) (old new : DeskState S) (result : Result Reply DeskFault) → IsAnswer v causes call old new result → Meets v call old new result
-  meets call old new result a =
-      record { when_open = λ opened. record { answers = a.exit opened; flag = a.flag opened }; when_closed = a.closed; policy = a.policy }
+  meets call old new result a = grind arith
 
   module _ (at : ℕ) (random : List ℕ) where
     -- a request was answered
@@ -53,6 +51,4 @@ module _ {S C : Type 0} (v : Sight S C) (causes : Causes S) where
     pub once_acts : (base : List ℕ) (old new : DeskState S) (served : Result Served IoFault)
         → MatchResult served (λ s. Serves v causes at random base None None None old new s) (λ e. Breaks v causes at random base None None None old new e)
         → ActsOnce v old new
-    once_acts base old new (Ok served) s = served_acts base old new s.0 served.cause served.written served.summary s.2
-    once_acts base old new (Err iofault.Read) s = inl (s.0)
-    once_acts base old new (Err iofault.Write) s = cut_acts base old new s.form s.cause s.by
+    once_acts base old new served s = grind (arith, Ok, served_acts, Err, cut_acts)

@@ -1,7 +1,7 @@
 -- The number of a URL, by its path.
-use Rattle.std.proofs.Common.{◌≡◌, ◌≢◌, ◌∙◌, ℕ, List, [], ◌++◌, Option, Some, None, codes, inl, inr, subst, sym}
+use Rattle.std.proofs.Common.{◌≡◌, ◌≢◌, ℕ, List, [], ◌++◌, Option, Some, None, codes, ◌∙◌, inl, inr, subst, sym}
+use Rattle.std.proofs.lemmas.List.{append_cancel_left, append_cancel_left}
 use Rattle.std.specs.Prelude.{MatchOption}
-use Rattle.std.proofs.lemmas.List.{append_cancel_left}
 use Rattle.http_routes.specs.Routes.{HasNumber}
 use Rattle.desk_http.specs.Logged.{IsLocated, IsPathOf, IsUrlOf}
 

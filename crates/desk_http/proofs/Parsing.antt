@@ -1,5 +1,5 @@
 -- From what was read to what is served.
-use Rattle.std.proofs.Common.{◌≡◌, ℕ, List, Option, Some, None, Result, Ok}
+use Rattle.std.proofs.Common.{◌≡◌, ℕ, List, Option, Some, None, Result, Ok, arith}
 use Rattle.std.specs.{Prelude.IfSome, declared.alloc.AllocError.AllocError}
 use Rattle.desk_model.specs.declared.reply.Reply.{Reply}
 use Rattle.store_api.specs.{Sight.Sight, Storing.Causes}
@@ -8,26 +8,21 @@ use Rattle.http_routes.specs.declared.request.Request.{Request}
 use Rattle.http_wire.specs.{Spelled.IsReplyForm, Spelled.Spells, declared.call.ParsedRequest.ParsedRequest}
 use Rattle.desk_http.specs.Serving.{Fails, HasAnswer, IsParsedOf, LacksReply, LacksText, ReadAnswer}
 use Rattle.desk_http.specs.declared.serving.Unanswered.{Unanswered}
-use Rattle.desk_http.specs.declared.serving.Unanswered.TheVariants as cause
 
 -- the request that was read is the input's
 spelled : (remaining : Option (List ℕ)) (h : ParsedRequest) (q : Request) → IsParsedOf remaining h → h.request ≡ Ok q
     → IfSome remaining (λ input. Spells input q)
-spelled None h q is e = tt
-spelled (Some input) h q is e = rw e at is.request
+spelled remaining h q is e = grind (arith, None, Some)
 
 -- and so is how its reply is written
 pub form_parsed : (remaining : Option (List ℕ)) (h : ParsedRequest) → IsParsedOf remaining h → IfSome remaining (λ input. IsReplyForm input h.form)
-form_parsed None h is = tt
-form_parsed (Some input) h is = is.form
+form_parsed remaining h is = grind (arith, None, Some)
 
 -- why a request that was read has no reply is why it has no text
 pub no_text : {S C : Type 0} (v : Sight S C) (causes : Causes S) (at : ℕ) (random : List ℕ) (read : Result Request AllocError)
     (q : Request) (old new : DeskState S) (why : Unanswered) → read ≡ Ok q → LacksReply v causes at random q why old new
     → LacksText v causes at random read why old new
-no_text v causes at random read q old new (cause.Desk fault) e l = record { request = q; is_read = e; responds = l }
-no_text v causes at random read q old new cause.Reading e l = l
-no_text v causes at random read q old new cause.Text e l = absurd l
+no_text v causes at random read q old new why e l = grind arith
 
 module _ {S C : Type 0} (v : Sight S C) (causes : Causes S) (at : ℕ) (random : List ℕ) (remaining : Option (List ℕ)) (h : ParsedRequest) where
   -- the answer to what was read is the answer to the input
@@ -38,6 +33,4 @@ module _ {S C : Type 0} (v : Sight S C) (causes : Causes S) (at : ℕ) (random :
   -- why what was read did not have its reply is why the input did not
   pub fails : (old new : DeskState S) (why : Unanswered) → IsParsedOf remaining h
       → LacksText v causes at random h.request why old new → Fails v causes at random remaining old new why
-  fails old new (cause.Desk fault) is l = answered old new _ is l
-  fails old new cause.Reading is l = l
-  fails old new cause.Text is l = (l.0, answered old new _ is l.1)
+  fails old new why is l = grind (arith, answered)

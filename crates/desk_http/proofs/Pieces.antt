@@ -1,10 +1,10 @@
 -- What is shown, copied in pieces.
 use Rattle.std.proofs.Common.{◌≡◌, ◌≢◌, ◌∙◌, ◌<◌, ◌+◌, ◌-◌, ◌++◌, ℕ, Bool, false, List, [], Option, Result, Ok, Err, ap, append_assoc, arith, drop, length}
-use Rattle.std.proofs.Common.{subst, sym, take, take-append-drop}
-use Rattle.std.proofs.{KnownBytes.Appends-nil, KnownBytes.Appends-trans, KnownBytes.Consumes-trans, lemmas.List.drop_at, lemmas.List.length-append}
-use Rattle.std.specs.{Prelude.◌↔◌, Prelude.IsTrue, Prelude.OnErr, Io.KnownBytes.Appends, Io.KnownBytes.Consumes, Io.KnownBytes.IsAtEnd}
+use Rattle.std.proofs.Common.{take, take-append-drop, subst, sym}
+use Rattle.std.proofs.{KnownBytes.Appends-trans, KnownBytes.Consumes-trans, lemmas.List.drop_at, lemmas.List.length-append}
+use Rattle.std.specs.{Prelude.OnErr, Io.KnownBytes.Appends, Io.KnownBytes.Consumes, Io.KnownBytes.IsAtEnd}
 use Rattle.http_wire.specs.Head.{Adds}
-use Rattle.desk_http.specs.{Copied.CopiesAll, Copied.CopiesLong, Copied.WritesSome, Serving.AppendsBeginning}
+use Rattle.desk_http.specs.{Copied.CopiesAll, Copied.CopiesLong, Copied.WritesSome}
 
 -- behind a first piece these bytes were read, and all but the last piece was written
 pub record HasCopied (first piece : List ℕ) (input left was is : Option (List ℕ)) : Type 0 where
@@ -14,20 +14,12 @@ pub record HasCopied (first piece : List ℕ) (input left was is : Option (List 
   pub whole : first ++ bytes ≡ shown ++ piece
   pub written : Appends was is shown
 
--- nothing was written, or a beginning of something
-pub writes_none : (was : Option (List ℕ)) → WritesSome was was
-writes_none was = ([], Appends-nil was)
-
-pub writes_begun : (was is : Option (List ℕ)) (text : List ℕ) → AppendsBeginning was is text → WritesSome was is
-writes_begun was is text it = (take it.0 text, it.1)
-
 pub writes_more : (was mid is : Option (List ℕ)) (bytes : List ℕ) → Appends was mid bytes → WritesSome mid is → WritesSome was is
 writes_more was mid is bytes before it = (bytes ++ it.0, Appends-trans was mid is bytes it.0 before it.1)
 
 -- what is so of a failed result
 pub where_failed : {A E : Type 0} (r : Result A E) (P : Type 0) → P → OnErr r P
-where_failed (Ok x) P p = tt
-where_failed (Err e) P p = p
+where_failed r P p = grind (arith, Ok, Err)
 
 -- a piece more: what was held of it stands before what was added
 pub whole_next : (first piece held full added bytes shown : List ℕ) (n : ℕ) → first ++ bytes ≡ shown ++ piece → held ≡ drop n piece
@@ -55,25 +47,9 @@ module _ (first piece held : List ℕ) (input left more was is mid : Option (Lis
 -- and what was read last ends with the last line
 pub copied_long : (first end shown last : List ℕ) (input left was mid is : Option (List ℕ)) → HasCopied first end input left was mid → end ≡ shown ++ last
     → Appends mid is shown → IsAtEnd left → CopiesLong first last input left was is
-copied_long first end shown last input left was mid is it ends written at_end = record {
-  shown = it.shown ++ shown;
-  bytes = it.bytes;
-  read = it.read;
-  end = at_end;
-  whole = it.whole ∙ (ap (λ l. it.shown ++ l) ends ∙ sym (append_assoc it.shown shown last));
-  written = Appends-trans was mid is it.shown shown it.written written;
-}
+copied_long first end shown last input left was mid is it ends written at_end = grind (arith, shown, append_assoc, Appends-trans)
 
 -- ---- what stands behind the head
-
--- it was all read at once
-pub all_short : (last text whole bytes : List ℕ) (input left was is : Option (List ℕ)) (is_text : Bool) → whole ≡ bytes → Consumes input left bytes → IsAtEnd left
-    → (shown : List ℕ) × (whole ≡ shown ++ last) × Appends was is shown × (IsTrue is_text ↔ (shown ≡ text)) → CopiesAll [] last text input left was is is_text
-all_short last text whole bytes input left was is is_text same read end it = (
-  it.0,
-  record { read = subst (Consumes input left) (sym same ∙ it.1) read; end = end; written = it.2 },
-  it.3,
-)
 
 -- or it is longer than a piece, and so no text that is shorter
 not_text : (piece bytes shown last text : List ℕ) → piece ++ bytes ≡ shown ++ last → length text + length last < length piece → shown ≢ text
@@ -97,11 +73,7 @@ all_long last text piece first input mid left was is same read room it = (
 -- and the head before it
 pub all_behind : (head last text : List ℕ) (input mid left was is : Option (List ℕ)) (is_text : Bool) → Consumes input mid head
     → CopiesAll [] last text mid left was is is_text → CopiesAll head last text input left was is is_text
-all_behind head last text input mid left was is is_text read it = (
-  it.0,
-  record { read = Consumes-trans input mid left head (it.0 ++ last) read it.1.read; end = it.1.end; written = it.1.written },
-  it.2,
-)
+all_behind head last text input mid left was is is_text read it = grind (arith, Consumes-trans)
 
 -- what has other bytes at its end does not end with the last line
 pub no_last : (end rest last : List ℕ) (n : ℕ) → n ≡ length end - length last → rest ≡ drop n end → (rest ≡ last → ⊥) → (shown : List ℕ)

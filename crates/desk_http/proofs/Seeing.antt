@@ -1,5 +1,5 @@
 -- What serving connections one after the other does may be seen.
-use Rattle.std.proofs.Common.{◌≡◌, ℕ, zero, suc, Bool, true, false, Err, subst, sym, inl, Option, Some, None, Result}
+use Rattle.std.proofs.Common.{◌≡◌, ℕ, zero, suc, Bool, true, false, Err, subst, sym, Option, Some, None, Result, rules, inl}
 use Rattle.store_api.specs.{Sight.Sight, Storing.Causes}
 use Rattle.desk.specs.{SeenDesks.IsSeenOn, State.DeskState, Meets.ActsOnce, declared.fault.DeskFault.DeskFault}
 use Rattle.desk.proofs.SeeingDesks.{seen_once_more, seen_untouched}
@@ -32,8 +32,7 @@ module _ {S C : Type 0} (v : Sight S C) (causes : Causes S) (hook : Shower S) wh
     -- and so many
     pub seen_many : (n : ℕ) (old new : DeskState S) (was is : Watch O) → ServesMany v causes hook takes n old was new is → IsSeenOn v old new
     seen_many zero old new was is same = seen_untouched v old new same.0
-    seen_many (suc n) old new was is many =
-        seen_next_one None true old many.0 new many.1 is (seen_many n old many.0 was many.1 many.2) many.3
+    seen_many (suc n) old new was is many = search (rules, seen_next_one, None, true, (seen_many n old many.0 was many.1 many.2))
 
     -- and what came where the machine failed
     seen_same : (n : ℕ) (old mid new : DeskState S) (was between : Watch O) → ServesMany v causes hook takes n old was mid between → new ≡ mid

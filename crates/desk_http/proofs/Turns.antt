@@ -1,5 +1,5 @@
 -- Connections that are served one after the other.
-use Rattle.std.proofs.Common.{◌≡◌, ◌<◌, Err, ℕ, ◌+◌, Bool, true, Option, None, Some, add-one, false, inl, inr, refl}
+use Rattle.std.proofs.Common.{◌≡◌, ◌<◌, Err, ℕ, ◌+◌, Bool, true, Option, None, Some, add-one, false, arith, refl}
 use Rattle.store_api.specs.{Sight.Sight, Storing.Causes}
 use Rattle.desk.specs.{State.DeskState, declared.fault.DeskFault.DeskFault}
 use Rattle.desk_http.specs.InTurn.{IsOfMachine, ServesConnections, ServesFewer, ServesMany, ServesNext, ServesOne, ended_by}
@@ -52,13 +52,9 @@ module _ {S C : Type 0} (v : Sight S C) (causes : Causes S) (hook : Shower S) {O
   -- one connection was served, by how that ended
   pub serves_next : (why : Option DeskFault) (kept : Bool) (old new : DeskState S) (was is : Watch O) → ServesOne v causes hook takes why kept old was new is
       → ServesNext v causes hook takes old was new is (ended_by why kept)
-  serves_next (Some why) kept old new was is one = (kept, one)
-  serves_next None true old new was is one = one
-  serves_next None false old new was is one = one
+  serves_next why kept old new was is one = grind (arith, Some, None, true, false)
 
   -- where the machine failed nothing was done
   pub machine_fails : (e : ServeFault) (old new : DeskState S) (was is : Watch O) → IsOfMachine e → new ≡ old → is.overseer ≡ was.overseer
       → ServesNext v causes hook takes old was new is (Err e)
-  machine_fails e old new was is (inl it) same kept = rw it (same, kept)
-  machine_fails e old new was is (inr (inl it)) same kept = rw it (same, kept)
-  machine_fails e old new was is (inr (inr it)) same kept = rw it (same, kept)
+  machine_fails e old new was is h5 same kept = grind arith

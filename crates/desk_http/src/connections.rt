@@ -44,6 +44,7 @@ const MOST_RANDOM: usize = NONCE_RANDOM * (1 + 2 * MOST_NAMES);
 ///
 /// `Accept`, `Clock` or `Random` where the machine failed; `Replaced` where the desk is not in its place, `Output` where an entry
 /// is not kept; `Desk` where the desk is closed, and only there.
+#[tactic(auto, using(crate::proofs::Turns::fewer_served, crate::proofs::Seeing::seen_last, crate::proofs::Seeing::seen_many, crate::proofs::Turns::serves_last, crate::proofs::Turns::serves_more))]
 pub fn serve_connections<
     M: Clock + RandomSource,
     K: Storage + Drop,

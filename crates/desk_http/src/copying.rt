@@ -119,6 +119,7 @@ fn begins_with<R: Read>(reader: &mut R, text: &[u8], room: &mut [u8]) -> Result<
 }
 
 // Copies what stands behind the head, up to the last line, and tells whether it is just this text.
+#[tactic(auto, using(crate::proofs::Pieces::all_long, std::proofs::lemmas::List::take_all))]
 fn copy_behind<R: Read, W: Write>(
     reader: &mut R,
     last: &[u8],

@@ -57,6 +57,7 @@ fn located(base: &str, reply: &Reply) -> Option<u64>
 }
 
 // The number of the account or of the order of a URL.
+#[tactic(auto, using(crate::proofs::Locating::located_by, crate::proofs::Locating::not_located))]
 fn number_of_url(base: &str, url: &str) -> Option<u64>
     ensures { MatchOption result ((n : ℕ) → ¬ (IsUrlOf base.now url.now n)) (λ n. IsUrlOf base.now url.now n) }
 {

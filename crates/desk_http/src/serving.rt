@@ -90,6 +90,7 @@ pub fn serve_request_by<R: Read, W: Write, K: Storage + Drop>(
 /// # Errors
 ///
 /// `Write` where the writer fails.
+#[tactic(auto, using(crate::proofs::Parsing::answered, crate::proofs::Parsing::fails, crate::proofs::Parsing::form_parsed))]
 pub fn respond<W: Write, K: Storage + Drop>(
     alloc: Global,
     writer: &mut W,

@@ -1,5 +1,5 @@
 -- The router of the desk finds each of its paths.
-use Rattle.std.proofs.Common.{◌≡◌, ℕ, suc, ◌<◌, ◌≤◌, List, [], ◌∷◌, ◌++◌, length, Some, refl, cond, codes, decimal, arith, ap, append-nil}
+use Rattle.std.proofs.Common.{◌≡◌, ℕ, suc, ◌<◌, ◌≤◌, List, [], ◌∷◌, ◌++◌, length, Some, refl, cond, codes, decimal, arith, ap}
 use Rattle.std.proofs.lemmas.Fmt.{decimal_is_IsNumeral}
 use Rattle.std.specs.{Prelude.option_map, Str.Parse.AllDigits}
 use Rattle.matchit.specs.{Rows.RowsOf, Router.RouteOf, Route.scan, Seek.first, Seek.seek, Seek.param_step}
@@ -37,30 +37,7 @@ Behind r = cond (is_numbered r) (Alone r) (option_map value_of (first desk_route
 
 behind : (r : Route) → Behind r
 unfolding add_route scan seek param_step
-behind route.Directory = refl
-behind route.NewNonce = refl
-behind route.NewAccount = refl
-behind route.KeyChange = refl
-behind route.NewOrder = refl
-behind route.Account = refl
-behind route.Orders = refl
-behind route.Order = refl
-behind route.Finalize = refl
-behind route.Cert = refl
-behind route.Authz = refl
-behind route.Chall = refl
-behind route.Key = refl
-behind route.ChallengeWork = refl
-behind route.OrderWork = refl
-behind route.Report = refl
-behind route.Certify = refl
-behind route.FailOrder = refl
-behind route.RevokeAuthz = refl
-behind route.RevokeAccount = refl
-behind route.Page = refl
-behind route.Look = refl
-behind route.Metrics = refl
-behind route.Backup = refl
+behind r = grind arith
 
 -- ---- the number of a path
 
@@ -77,32 +54,28 @@ by_digits {K} path before after n rows k h found =
     of_text [] digits some = absurd (omega (arith, some))
     of_text (d ∷ ds) digits some = found d ds digits
 
-module _ {K : Type 0} (rows : RowsOf K) (before : List ℕ) where
-  -- the route that is found where it stands alone
-  alone : (k : K) → steps before rows ≡ (256 ∷ [], k) ∷ [] → (path : List ℕ) (n : ℕ) → HasNumber path before n [] → first rows path ≡ Some k
-  alone k is path n h = by_digits path before [] n rows k h (λ d ds digits. rw (is, append-nil ds) (number_alone d ds k digits))
-
-  -- the shorter of two
-  shorter : (j k : K) (w : List ℕ) → steps before rows ≡ (256 ∷ 47 ∷ w, j) ∷ (256 ∷ [], k) ∷ []
-      → (path : List ℕ) (n : ℕ) → HasNumber path before n [] → first rows path ≡ Some k
-  shorter j k w is path n h = by_digits path before [] n rows k h (λ d ds digits. rw (is, append-nil ds) (number_at_end d ds w j k digits))
-
-  -- and the longer
-  longer : (j k : K) (w : List ℕ) → steps before rows ≡ (256 ∷ 47 ∷ w, j) ∷ (256 ∷ [], k) ∷ []
-      → seek 0 ((47 ∷ w, j) ∷ []) (47 ∷ w) ≡ Some j
-      → (path : List ℕ) (n : ℕ) → HasNumber path before n (47 ∷ w) → first rows path ≡ Some j
-  longer j k w is there path n h = by_digits path before (47 ∷ w) n rows j h (λ d ds digits. rw is (number_before d ds w j k digits there))
-
 -- ---- the routes of the desk
 
 -- a path is found whose route stands alone
 found_alone : (r : Route) → Alone r → (path : List ℕ) (n : ℕ) → HasNumber path (prefix r) n [] → option_map value_of (first desk_routes path) ≡ Some r
-found_alone r is path n h = ap (option_map value_of) (alone desk_routes (prefix r) (kept r) is path n h)
+found_alone r is path n h =
+    ap (option_map value_of) (by_digits path (prefix r) [] n desk_routes (kept r) h (λ d ds digits. rw is (number_alone d ds (kept r) digits)))
 
--- or is the shorter of two
-found_shorter : (long short : Route) (w : List ℕ) → steps (prefix short) desk_routes ≡ (256 ∷ 47 ∷ w, kept long) ∷ (256 ∷ [], kept short) ∷ []
-    → (path : List ℕ) (n : ℕ) → HasNumber path (prefix short) n [] → option_map value_of (first desk_routes path) ≡ Some short
-found_shorter long short w is path n h = ap (option_map value_of) (shorter desk_routes (prefix short) (kept long) (kept short) w is path n h)
+module _ (long short : Route) (w : List ℕ) (is : steps (prefix short) desk_routes ≡ (256 ∷ 47 ∷ w, kept long) ∷ (256 ∷ [], kept short) ∷ [])
+    (path : List ℕ) (n : ℕ) where
+  -- or is the shorter of two
+  found_shorter : HasNumber path (prefix short) n [] → option_map value_of (first desk_routes path) ≡ Some short
+  found_shorter h =
+      ap (option_map value_of)
+      (by_digits path (prefix short) [] n desk_routes (kept short) h (λ d ds digits. rw is (number_at_end d ds w (kept long) (kept short) digits)))
+
+  -- or the longer
+  found_longer : seek 0 ((47 ∷ w, kept long) ∷ []) (47 ∷ w) ≡ Some (kept long) → HasNumber path (prefix short) n (47 ∷ w)
+      → option_map value_of (first desk_routes path) ≡ Some long
+  found_longer there h =
+      ap (option_map value_of)
+      (by_digits path (prefix short) (47 ∷ w) n desk_routes (kept long) h
+      (λ d ds digits. rw is (number_before d ds w (kept long) (kept short) digits there)))
 
 -- each path of a route is found to be of it
 pub desk_routes_are_found : (path : List ℕ) (r : Route) (n : ℕ) → IsPathText (is_numbered r) path r n
@@ -114,13 +87,9 @@ desk_routes_are_found path route.NewAccount n h = rw (h.0) (behind route.NewAcco
 desk_routes_are_found path route.KeyChange n h = rw (h.0) (behind route.KeyChange)
 desk_routes_are_found path route.NewOrder n h = rw (h.0) (behind route.NewOrder)
 desk_routes_are_found path route.Account n h = found_shorter route.Orders route.Account (codes "orders") (behind route.Account) path n h
-desk_routes_are_found path route.Orders n h =
-    ap (option_map value_of)
-    (longer desk_routes (codes "/account/") (kept route.Orders) (kept route.Account) (codes "orders") (behind route.Orders) refl path n h)
+desk_routes_are_found path route.Orders n h = found_longer route.Orders route.Account (codes "orders") (behind route.Orders) path n refl h
 desk_routes_are_found path route.Order n h = found_shorter route.Finalize route.Order (codes "finalize") (behind route.Order) path n h
-desk_routes_are_found path route.Finalize n h =
-    ap (option_map value_of)
-    (longer desk_routes (codes "/order/") (kept route.Finalize) (kept route.Order) (codes "finalize") (behind route.Finalize) refl path n h)
+desk_routes_are_found path route.Finalize n h = found_longer route.Finalize route.Order (codes "finalize") (behind route.Finalize) path n refl h
 desk_routes_are_found path route.Cert n h = found_alone route.Cert (behind route.Cert) path n h
 desk_routes_are_found path route.Authz n h = found_alone route.Authz (behind route.Authz) path n h
 desk_routes_are_found path route.Chall n h = found_alone route.Chall (behind route.Chall) path n h

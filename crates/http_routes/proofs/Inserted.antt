@@ -1,14 +1,13 @@
 -- What an insertion into the router leaves.
-use Rattle.std.proofs.Common.{◌≡◌, inl, inr, List, ℕ, subst}
-use Rattle.std.specs.Prelude.{Result, Ok, Err}
+use Rattle.std.proofs.Common.{◌≡◌, List, ℕ, subst, arith}
+use Rattle.std.specs.Prelude.{Result, Ok}
 use Rattle.matchit.specs.{Rows.RowsOf, declared.error.InsertError.InsertError, Router.RouteOf, Router.InsertsRead, Route.Scan, Route.parse_route}
 use Rattle.http_routes.specs.{Routes.text_of, declared.routes.Route.Route, Router.on_scan, Router.add_route}
 
 -- what an insertion leaves of a route's text that was read
 on_scan_inserted : (scan : Result Scan InsertError) (v : Route) (old new : RowsOf (RouteOf Route)) (u : Unit {0})
     → InsertsRead scan v old new (Ok u) → new ≡ on_scan scan v old
-on_scan_inserted (Ok s) v old new u h = h.1
-on_scan_inserted (Err e) v old new u h = elim h.1 [ inl q ↦ cc | inr q ↦ cc ]
+on_scan_inserted scan v old new u h = grind arith
 
 -- a route that was inserted by its text is in its place
 pub inserted : (text : List ℕ) (v : Route) (old new : RowsOf (RouteOf Route)) (u : Unit {0}) → text ≡ text_of v

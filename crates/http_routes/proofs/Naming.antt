@@ -1,5 +1,5 @@
 -- The status that a text names, and the names of members.
-use Rattle.std.proofs.Common.{◌≡◌, ◌≢◌, ℕ, List, [], ◌∷◌, Bool, true, false, cond, map, Option, Some, None, refl, sym, ap, ◌∙◌, subst}
+use Rattle.std.proofs.Common.{◌≡◌, ◌≢◌, ℕ, List, [], ◌∷◌, Bool, false, cond, map, Option, Some, None, refl, sym, ap, ◌∙◌, subst, arith}
 use Rattle.std.proofs.lemmas.Slice.Eq.{bytes_eq-Decides}
 use Rattle.std.specs.{Prelude.◌&&◌, Prelude.String, Prelude.bytes_eq, Prelude.find, Prelude.string_bytes, List.list_all, declared.alloc.Global.Global}
 use Rattle.serde_json.specs.{View.members_view, declared.value.Value.Value}
@@ -9,8 +9,7 @@ use Rattle.http_routes.specs.Looked.{names, status_named, statuses}
 
 -- texts that are not the same are told apart
 told_apart : (a b : List ℕ) (r : Bool) → bytes_eq a b ≡ r → a ≢ b → bytes_eq a b ≡ false
-told_apart a b true same other = absurd (other ((bytes_eq-Decides a b).0 same))
-told_apart a b false same other = same
+told_apart a b r same other = grind (arith, bytes_eq-Decides)
 
 -- nothing is found where nothing passes
 nothing_found : {X : Type 0} (test : X → Bool) (xs : List X) → ((x : X) → test x ≡ false) → find test xs ≡ None

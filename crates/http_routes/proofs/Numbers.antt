@@ -1,5 +1,5 @@
 -- Numbers of objects and their decimal texts.
-use Rattle.std.proofs.Common.{◌≡◌, ◌≢◌, ℕ, zero, suc, ◌<◌, ◌≤◌, ◌^◌, List, length, get_or, arith, sym, subst, ap, ◌∙◌, decimal}
+use Rattle.std.proofs.Common.{◌≡◌, ◌≢◌, ℕ, ◌<◌, ◌≤◌, ◌^◌, List, length, get_or, arith, sym, subst, ap, ◌∙◌, decimal}
 use Rattle.std.proofs.lemmas.Fmt.{parse-decimal, decimal_is_IsNumeral, decimal-digits_value, decimal_digit, first_decimal}
 use Rattle.std.proofs.lemmas.Str.Parse.{IsNumeralModel, numerals_by_value, tells_digits, digit_at, parse_plain}
 use Rattle.std.specs.{Int.IsInRange, Result.OkIff, Prelude.Result, Prelude.Ok, Str.Parse.AllDigits, Str.Parse.digits_value, Str.Parse.ParsesUnsigned}
@@ -11,7 +11,7 @@ own : IsNumeralModel (AllDigits 10) (digits_value 10)
 own = numerals_by_value _ tells_digits
 
 -- a number of an object has 64 bits
-fits : (n : ℕ) → n ≤ last_number → n < 2 ^ 64
+pub fits : (n : ℕ) → n ≤ last_number → n < 2 ^ 64
 fits n h = omega arith
 
 -- its text parses to it
@@ -20,16 +20,11 @@ number_parses text n r parses h = parse-decimal 64 n text r (fits n h.last) (fit
 
 -- its text begins with a digit other than zero
 pub number_begins : (text : List ℕ) (n : ℕ) → IsNumberText text n → IsInRange 49 57 (get_or text 0 0)
-number_begins text n h =
-    let numeral = decimal_is_IsNumeral n (fits n h.last) in
-    let above : 48 < get_or (decimal n) 0 0 = first_decimal n h.first (fits n h.last) in
-    let digit : IsInRange 48 57 (get_or (decimal n) 0 0) = digit_at (decimal n) 0 numeral.0.1 numeral.0.0 in
-    rw (h.digits) (omega arith, digit.1)
+number_begins text n h = grind (arith, decimal_is_IsNumeral, first_decimal, digit_at)
 
 -- what is written so is not zero
 positive : (text : List ℕ) (n : ℕ) → text ≡ decimal n → 48 < get_or text 0 0 → 1 ≤ n
-positive text zero e above = absurd (omega (arith, ap (λ l. get_or l 0 0) (e ∙ decimal_digit 0 (omega arith))))
-positive text (suc n) e above = omega arith
+positive text n e above = grind (arith, decimal_digit)
 
 -- what parses and begins so is the text of its number
 pub parsed_is_number : {E : Type 0} (text : List ℕ) (n : ℕ) (r : Result ℕ E) → ParsesUnsigned 64 10 text r

@@ -1,8 +1,7 @@
 -- The parts of a route's text: before its number, and behind it.
-use Rattle.std.proofs.Common.{◌≡◌, ◌≢◌, ℕ, Bool, true, false, cond, ◌==◌, List, [], ◌∷◌, ◌++◌, codes, Option, MatchOption, refl, sym, subst, ◌∙◌}
+use Rattle.std.proofs.Common.{◌≡◌, ◌≢◌, ℕ, Bool, true, false, cond, ◌==◌, List, [], ◌∷◌, ◌++◌, codes, Option, MatchOption, refl, sym, subst, ◌∙◌, arith}
 use Rattle.http_routes.specs.Routes.{HasNumber, IsPathText, is_numbered, prefix, suffix, text_by, text_of}
 use Rattle.http_routes.specs.declared.routes.Route.{Route}
-use Rattle.http_routes.specs.declared.routes.Route.TheVariants as route
 
 -- the text has a brace that opens
 abbrev has_brace : List ℕ → Bool
@@ -12,19 +11,11 @@ has_brace (c ∷ text) = cond (c == 123) true (has_brace text)
 -- the brace of a mark is one
 brace_of_mark : (before after : List ℕ) → has_brace (before ++ (123 ∷ after)) ≡ true
 brace_of_mark [] after = refl
-brace_of_mark (c ∷ before) after = by (c == 123) (brace_of_mark before after)
-  where
-    by : (v : Bool) → has_brace (before ++ (123 ∷ after)) ≡ true → cond v true (has_brace (before ++ (123 ∷ after))) ≡ true
-    by true there = refl
-    by false there = there
+brace_of_mark (c ∷ before) after = grind (arith, (brace_of_mark before after))
 
 -- a text without one has none behind its first byte
 none_behind : (c : ℕ) (text : List ℕ) → has_brace (c ∷ text) ≡ false → has_brace text ≡ false
-none_behind c text h = by (c == 123) h
-  where
-    by : (v : Bool) → cond v true (has_brace text) ≡ false → has_brace text ≡ false
-    by true e = cc
-    by false e = e
+none_behind c text h = grind arith
 
 -- a text without one has no mark
 no_mark : (text before after : List ℕ) → has_brace text ≡ false → text ≡ before ++ (123 ∷ after) → ⊥
@@ -38,10 +29,7 @@ one_mark [] s [] after free last e = (refl, cc)
 one_mark [] s (x ∷ before) after free last e =
     let behind : 110 ∷ 125 ∷ s ≡ before ++ (123 ∷ 110 ∷ 125 ∷ after) = cc in
     absurd (no_mark (110 ∷ 125 ∷ s) before (110 ∷ 125 ∷ after) last behind)
-one_mark (c ∷ p) s [] after free last e =
-    let brace : c ≡ 123 = cc in
-    let there : true ≡ false = subst (λ (x : ℕ). has_brace (x ∷ p) ≡ false) brace free in
-    absurd (cc)
+one_mark (c ∷ p) s [] after free last e = grind arith
 one_mark (c ∷ p) s (x ∷ before) after free last e =
     let same : c ≡ x = cc in
     let behind : p ++ (codes "{n}" ++ s) ≡ before ++ (codes "{n}" ++ after) = cc in
@@ -50,30 +38,7 @@ one_mark (c ∷ p) s (x ∷ before) after free last e =
 
 -- no route's path has a brace
 free : (r : Route) → (has_brace (prefix r) ≡ false) × (has_brace (suffix r) ≡ false)
-free route.Directory = (refl, refl)
-free route.NewNonce = (refl, refl)
-free route.NewAccount = (refl, refl)
-free route.KeyChange = (refl, refl)
-free route.NewOrder = (refl, refl)
-free route.Account = (refl, refl)
-free route.Orders = (refl, refl)
-free route.Order = (refl, refl)
-free route.Finalize = (refl, refl)
-free route.Cert = (refl, refl)
-free route.Authz = (refl, refl)
-free route.Chall = (refl, refl)
-free route.Key = (refl, refl)
-free route.ChallengeWork = (refl, refl)
-free route.OrderWork = (refl, refl)
-free route.Report = (refl, refl)
-free route.Certify = (refl, refl)
-free route.FailOrder = (refl, refl)
-free route.RevokeAuthz = (refl, refl)
-free route.RevokeAccount = (refl, refl)
-free route.Page = (refl, refl)
-free route.Look = (refl, refl)
-free route.Metrics = (refl, refl)
-free route.Backup = (refl, refl)
+free r = grind arith
 
 -- the number of a path of a route whose text has a mark stands between what is before it and behind it
 pub between_parts : (path : List ℕ) (r : Route) (before after : List ℕ) (o : Option ℕ) → text_of r ≡ before ++ (codes "{n}" ++ after)
@@ -100,9 +65,7 @@ module _ (r : Route) (none : (before after : List ℕ) → text_of r ≢ before 
 
   -- its path is its text
   pub whole_path : (path : List ℕ) → path ≡ text_of r → IsPathText (is_numbered r) path r 0
-  whole_path path e =
-      let q : path ≡ prefix r = e ∙ (λ i. text_by (no_number i) r) in
-      subst (λ (b : Bool). IsPathText b path r 0) (sym no_number) (q, refl)
+  whole_path path e = grind arith
 
   -- and no other
   pub other_path : (path : List ℕ) → path ≢ text_of r → (n : ℕ) → IsPathText (is_numbered r) path r n → ⊥

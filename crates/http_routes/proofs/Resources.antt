@@ -1,23 +1,15 @@
 -- The resource of a path, by the route that the router finds.
-use Rattle.std.proofs.Common.{◌≡◌, ℕ, ◌<◌, ◌≤◌, ◌^◌, Bool, true, false, List, arith, sym, ◌∙◌, subst, Some, None, Option}
+use Rattle.std.proofs.Common.{◌≡◌, ℕ, Bool, List, arith, subst, Some, None, Option}
 use Rattle.std.proofs.lemmas.Fmt.{decimal_injective}
 use Rattle.std.specs.Prelude.{option_map}
 use Rattle.matchit.specs.Seek.{first}
-use Rattle.http_routes.proofs.{Finding.desk_routes_are_found, Places.one_middle}
-use Rattle.http_routes.specs.Routes.{IsNumberText, IsPathText, IsResourceAt, is_numbered, prefix, resource_of, suffix}
+use Rattle.http_routes.proofs.{Finding.desk_routes_are_found, Numbers.fits, Places.one_middle}
+use Rattle.http_routes.specs.Routes.{IsPathText, IsResourceAt, is_numbered}
 use Rattle.http_routes.specs.{Router.desk_routes, Router.value_of, declared.routes.Resource.Resource, declared.routes.Route.Route}
-use Rattle.desk_model.specs.Limits.{last_number}
-
--- a number of an object has 64 bits
-fits : (text : List ℕ) (n : ℕ) → IsNumberText text n → n < 2 ^ 64
-fits text n h = let last : n ≤ last_number = h.last in omega arith
 
 -- a path of a route has one number
 one_number : (b : Bool) (path : List ℕ) (r : Route) (n m : ℕ) → IsPathText b path r n → IsPathText b path r m → n ≡ m
-one_number false path r n m x y = x.1 ∙ sym y.1
-one_number true path r n m x y =
-    let same : x.text ≡ y.text = one_middle (prefix r) (suffix r) x.text y.text (sym x.place ∙ y.place) in
-    decimal_injective n m (fits x.text n x.number) (fits y.text m y.number) (sym x.number.digits ∙ same ∙ y.number.digits)
+one_number b path r n m x y = grind (arith, one_middle, decimal_injective, fits)
 
 -- what is found is one route
 one_value : (o : Option Route) (r s : Route) → o ≡ Some r → o ≡ Some s → r ≡ s
@@ -25,12 +17,7 @@ one_value o r s x y = cc
 
 -- a path leads to one resource at most
 pub one_resource : (path : List ℕ) (x y : Resource) → IsResourceAt path x → IsResourceAt path y → x ≡ y
-one_resource path x y a b =
-    let e : a.route ≡ b.route = one_value (option_map value_of (first desk_routes path)) a.route b.route
-    (desk_routes_are_found path a.route a.number a.text) (desk_routes_are_found path b.route b.number b.text) in
-    let P : Route → Type 0 = λ r. IsPathText (is_numbered r) path r a.number in
-    let n : a.number ≡ b.number = one_number (is_numbered b.route) path b.route a.number b.number (subst P e a.text) b.text in
-    a.leads ∙ (λ i. resource_of (e i) (n i)) ∙ sym b.leads
+one_resource path x y a b = grind (arith, desk_routes_are_found, one_number)
 
 -- where no route is found, there is no resource
 pub none_found : (path : List ℕ) → option_map value_of (first desk_routes path) ≡ None → (x : Resource) → IsResourceAt path x → ⊥

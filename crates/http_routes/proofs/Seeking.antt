@@ -1,20 +1,19 @@
 -- What a router finds: bytes one by one, and a number in the place of a parameter.
-use Rattle.std.proofs.Common.{◌≡◌, ◌≢◌, ℕ, zero, suc, ◌+◌, ◌-◌, ◌<◌, List, [], ◌∷◌, ◌++◌, length, drop, Some, None, Bool, true, false, cond, refl, sym, ap, ◌∙◌}
+use Rattle.std.proofs.Common.{◌≡◌, ◌≢◌, ℕ, zero, suc, ◌+◌, ◌-◌, ◌<◌, List, [], ◌∷◌, ◌++◌, length, drop, Some, None, Bool, true, false, refl, sym, ap, ◌∙◌}
 use Rattle.std.proofs.Common.{arith, nat_eq, ◌==◌, ltb, ◌&&◌, append-nil}
 use Rattle.std.proofs.{lemmas.Bool.lt-ltb, lemmas.Bool.ne_eqb, lemmas.Bool.Decides.nat_tests, lemmas.List.length-append, Math.Seq.drop-append_seam}
 use Rattle.std.specs.{Char.digit_value, Cmp.Lexicographic.pointwise, Str.Parse.AllDigits}
-use Rattle.matchit.specs.Rows.{RowsOf}
-use Rattle.matchit.specs.Seek.{cuts, has_slash, or_else, own, param_step, seek, segment, step}
+use Rattle.matchit.specs.{Rows.RowsOf, Seek.cuts, Seek.has_slash, Seek.or_else, Seek.own, Seek.param_step, Seek.seek, Seek.segment, Seek.step}
 
 -- ---- texts of digits
 
--- a digit is neither a slash nor a token for a parameter
+-- a digit is no slash
 no_digit_is_slash : (d : ℕ) → digit_value d < 10 → d ≢ 47
 no_digit_is_slash d l q = omega (arith, rw q at l)
 
--- nor a token for a parameter
-no_digit_is_param : (d : ℕ) → digit_value d < 10 → d ≢ 256
-no_digit_is_param d l q = omega (arith, rw q at l)
+-- nor the token for a parameter
+no_digit_is_param : (d : ℕ) → digit_value d < 10 → (256 == d) ≡ false
+no_digit_is_param d l = ne_eqb 256 d (λ q. omega (arith, rw (sym q) at l))
 
 -- a text of digits has no slash
 pub no_slash : (ds : List ℕ) → AllDigits 10 ds → has_slash ds ≡ false
@@ -63,11 +62,7 @@ module _ {K : Type 0} where
   -- no rows leave no rows
   param_of_none : (p : List ℕ) → (param_step {K = K} [] p).1 ≡ []
   unfolding param_step
-  param_of_none p =
-      elim (has_slash p) as (λ v. (cond {A = ℕ × RowsOf K} v (0, []) (length p, [])).1 ≡ []) [
-        | true ↦ refl
-        | false ↦ refl
-      ]
+  param_of_none p = grind arith
 
   -- no rows, no route
   seek_none : (k : ℕ) (p : List ℕ) → seek {K = K} k [] p ≡ None
@@ -100,6 +95,13 @@ module _ {K : Type 0} where
   unfolding seek
   at_number d ds rs h = rw (h, seek_none 0 ds) refl
 
+  -- a parameter that takes the digits leads to what is found of the rest
+  by_parameter : (d : ℕ) (ds rest : List ℕ) (rs left : RowsOf K) (k : K) → step d rs ≡ []
+      → param_step (step 256 rs) (d ∷ ds ++ rest) ≡ (length (d ∷ ds), left) → seek 0 left rest ≡ Some k → seek 0 rs (d ∷ ds ++ rest) ≡ Some k
+  unfolding seek
+  by_parameter d ds rest rs left k none takes there =
+      at_number d (ds ++ rest) rs none ∙ rw (takes, one_less d ds, seek_behind left ds rest, there) refl
+
   -- ---- a route that ends with its number
 
   -- a parameter takes all of a text without a slash
@@ -108,45 +110,37 @@ module _ {K : Type 0} where
   takes_all ds k h = rw h refl
 
   -- it is found where it stands alone
-  pub number_alone : (d : ℕ) (ds : List ℕ) (k : K) → AllDigits 10 (d ∷ ds) → seek 0 ((256 ∷ [], k) ∷ []) (d ∷ ds) ≡ Some k
+  pub number_alone : (d : ℕ) (ds : List ℕ) (k : K) → AllDigits 10 (d ∷ ds) → seek 0 ((256 ∷ [], k) ∷ []) (d ∷ ds ++ []) ≡ Some k
   unfolding seek
   number_alone d ds k h =
-      let no : (256 == d) ≡ false = ne_eqb 256 d (λ q. no_digit_is_param d h.0 (sym q)) in
-      let one : seek (length ds) (([], k) ∷ []) (ds ++ []) ≡ Some k = seek_behind (([], k) ∷ []) ds [] in
-      let all : seek (length ds) (([], k) ∷ []) ds ≡ Some k = rw (append-nil ds) at one in
-      at_number d ds ((256 ∷ [], k) ∷ []) (rw no refl) ∙ rw (takes_all (d ∷ ds) k (no_slash (d ∷ ds) h), one_less d ds, all) refl
+      by_parameter d ds [] ((256 ∷ [], k) ∷ []) (([], k) ∷ []) k (rw (no_digit_is_param d h.0) refl)
+      (rw (append-nil ds) (takes_all (d ∷ ds) k (no_slash (d ∷ ds) h))) refl
 
   -- ---- beside a route that goes on behind its number
 
-  -- a parameter takes all digits
-  takes_all_of_two : (d : ℕ) (ds w : List ℕ) (j k : K) → AllDigits 10 (d ∷ ds)
-      → param_step ((47 ∷ w, j) ∷ ([], k) ∷ []) (d ∷ ds) ≡ (length (d ∷ ds), (47 ∷ w, j) ∷ ([], k) ∷ [])
-  unfolding param_step
-  takes_all_of_two d ds w j k h = rw (cuts_no_digits d ds h, no_slash (d ∷ ds) h) refl
+  module _ (d : ℕ) (ds w : List ℕ) (j k : K) (h : AllDigits 10 (d ∷ ds)) where
+    -- a parameter takes all digits
+    takes_all_of_two : param_step ((47 ∷ w, j) ∷ ([], k) ∷ []) (d ∷ ds) ≡ (length (d ∷ ds), (47 ∷ w, j) ∷ ([], k) ∷ [])
+    unfolding param_step
+    takes_all_of_two = rw (cuts_no_digits d ds h, no_slash (d ∷ ds) h) refl
 
-  -- or the digits before a slash
-  takes_to_slash : (d : ℕ) (ds w : List ℕ) (j k : K) → AllDigits 10 (d ∷ ds)
-      → param_step ((47 ∷ w, j) ∷ ([], k) ∷ []) (d ∷ ds ++ 47 ∷ w) ≡ (length (segment (d ∷ ds ++ 47 ∷ w)) - 1, (47 ∷ w, j) ∷ [])
-  unfolding param_step
-  takes_to_slash d ds w j k h = rw (cuts_slash d ds w h) refl
+    -- or the digits before a slash
+    takes_to_slash : param_step ((47 ∷ w, j) ∷ ([], k) ∷ []) (d ∷ ds ++ 47 ∷ w) ≡ (length (d ∷ ds), (47 ∷ w, j) ∷ [])
+    unfolding param_step
+    takes_to_slash =
+        let len : length (ds ++ 47 ∷ []) ≡ length ds + 1 = length-append ds (47 ∷ []) in
+        let e : length (segment (d ∷ ds ++ 47 ∷ w)) - 1 ≡ length (d ∷ ds) = rw (segment_before (d ∷ ds) w h) (omega (arith, len)) in
+        rw (cuts_slash d ds w h) (ap (λ n. (n, (47 ∷ w, j) ∷ [])) e)
 
-  -- it is found where the number ends the path
-  pub number_at_end : (d : ℕ) (ds w : List ℕ) (j k : K) → AllDigits 10 (d ∷ ds)
-      → seek 0 ((256 ∷ 47 ∷ w, j) ∷ (256 ∷ [], k) ∷ []) (d ∷ ds) ≡ Some k
-  unfolding seek
-  number_at_end d ds w j k h =
-      let no : (256 == d) ≡ false = ne_eqb 256 d (λ q. no_digit_is_param d h.0 (sym q)) in
-      let one : seek (length ds) ((47 ∷ w, j) ∷ ([], k) ∷ []) (ds ++ []) ≡ Some k = seek_behind ((47 ∷ w, j) ∷ ([], k) ∷ []) ds [] in
-      let all : seek (length ds) ((47 ∷ w, j) ∷ ([], k) ∷ []) ds ≡ Some k = rw (append-nil ds) at one in
-      at_number d ds ((256 ∷ 47 ∷ w, j) ∷ (256 ∷ [], k) ∷ []) (rw no refl) ∙ rw (takes_all_of_two d ds w j k h, one_less d ds, all) refl
+    -- it is found where the number ends the path
+    pub number_at_end : seek 0 ((256 ∷ 47 ∷ w, j) ∷ (256 ∷ [], k) ∷ []) (d ∷ ds ++ []) ≡ Some k
+    unfolding seek
+    number_at_end =
+        by_parameter d ds [] ((256 ∷ 47 ∷ w, j) ∷ (256 ∷ [], k) ∷ []) ((47 ∷ w, j) ∷ ([], k) ∷ []) k (rw (no_digit_is_param d h.0) refl)
+        (rw (append-nil ds) takes_all_of_two) refl
 
-  -- and the other where the path goes on
-  pub number_before : (d : ℕ) (ds w : List ℕ) (j k : K) → AllDigits 10 (d ∷ ds) → seek 0 ((47 ∷ w, j) ∷ []) (47 ∷ w) ≡ Some j
-      → seek 0 ((256 ∷ 47 ∷ w, j) ∷ (256 ∷ [], k) ∷ []) (d ∷ ds ++ 47 ∷ w) ≡ Some j
-  unfolding seek
-  number_before d ds w j k h there =
-      let no : (256 == d) ≡ false = ne_eqb 256 d (λ q. no_digit_is_param d h.0 (sym q)) in
-      let len : length (ds ++ 47 ∷ []) ≡ length ds + 1 = length-append ds (47 ∷ []) in
-      let e : length (segment (d ∷ ds ++ 47 ∷ w)) - 1 - 1 ≡ length ds = rw (segment_before (d ∷ ds) w h) (omega (arith, len)) in
-      at_number d (ds ++ 47 ∷ w) ((256 ∷ 47 ∷ w, j) ∷ (256 ∷ [], k) ∷ []) (rw no refl)
-      ∙ rw (takes_to_slash d ds w j k h, e, seek_behind ((47 ∷ w, j) ∷ []) ds (47 ∷ w), there) refl
+    -- and the other where the path goes on
+    pub number_before : seek 0 ((47 ∷ w, j) ∷ []) (47 ∷ w) ≡ Some j → seek 0 ((256 ∷ 47 ∷ w, j) ∷ (256 ∷ [], k) ∷ []) (d ∷ ds ++ 47 ∷ w) ≡ Some j
+    unfolding seek
+    number_before there =
+        by_parameter d ds (47 ∷ w) ((256 ∷ 47 ∷ w, j) ∷ (256 ∷ [], k) ∷ []) ((47 ∷ w, j) ∷ []) j (rw (no_digit_is_param d h.0) refl) takes_to_slash there

@@ -42,6 +42,7 @@ pub struct Line {
 /// # Errors
 ///
 /// `NotACall` where the line is no such object, `Memory` where there is no memory for its members.
+#[tactic(auto, using(crate::proofs::Spelled::spells_or_none))]
 pub fn read_line(alloc: Global, line: &[u8]) -> Result<Line, LineFault>
     ensures { MatchResult result (λ l. Spells line.now l) (λ fault. SpellsNone line.now fault) }
 {
@@ -128,6 +129,7 @@ fn whole_of(value: &Value, name: &str) -> Option<u64>
 /// # Errors
 ///
 /// Where there is no memory for it.
+#[tactic(auto, using(crate::proofs::Spelled::spaced, std::proofs::Common::string_bytes))]
 pub fn reply_line(alloc: Global, reply: &Reply) -> Result<String, AllocError>
     ensures { IfOk result (λ s. string_bytes s ≡ line_text reply.now) }
 {

@@ -184,6 +184,7 @@ fn kind_named(name: &str) -> Option<Kind>
 }
 
 // Whether a value is an object, all of whose members a report of this kind takes.
+#[tactic(auto, using(crate::proofs::Naming::names_pass))]
 fn has_only_members_of(kind: Kind, value: &Value) -> bool
     ensures { result ≡ has_only (takes kind) (view value.now) }
 {
@@ -299,6 +300,7 @@ fn status_in(value: &Value) -> Option<OrderStatus>
 }
 
 // The status of orders of this text (RFC 8555, 7.1.6).
+#[tactic(auto, using(crate::proofs::Naming::status_found))]
 fn status_named(text: &str) -> Option<OrderStatus>
     ensures { result ≡ status_named text.now }
 {

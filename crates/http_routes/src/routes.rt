@@ -316,6 +316,7 @@ fn find(router: &Router<Route>, path: &str) -> Option<Route>
 }
 
 // Adds the routes of the desk to a router that has none.
+#[tactic(auto, using(std::proofs::lemmas::List::at_drop_all, std::proofs::lemmas::List::at_drop_more))]
 fn add_all(router: &mut Router<Route>) -> Result<(), AllocError>
     requires { router.old ≡ [] }
     ensures { OnOk result (router.new ≡ desk_routes) }
@@ -327,6 +328,7 @@ fn add_all(router: &mut Router<Route>) -> Result<(), AllocError>
 }
 
 // Adds a route.
+#[tactic(auto, using(crate::proofs::Inserted::inserted))]
 fn add(router: &mut Router<Route>, route: Route) -> Result<(), AllocError>
     ensures { OnOk result (router.new ≡ add_route router.old route) }
 {
@@ -390,6 +392,7 @@ fn between<'t>(text: &'t str, before: &str, after: &str) -> Option<&'t str>
 }
 
 // The number of an object whose decimal text this is.
+#[tactic(auto, using(crate::proofs::Numbers::number_begins, crate::proofs::Numbers::number_parses, crate::proofs::Numbers::parsed_is_number))]
 fn number_in(text: &str) -> Option<u64>
     ensures { MatchOption result ((n : ℕ) → ¬ (IsNumberText text.now n)) (λ n. IsNumberText text.now n) }
 {

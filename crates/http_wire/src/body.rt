@@ -20,6 +20,7 @@ use std::io::{ErrorKind, Read};
 
 /// The first bytes of what was begun and what the reader has left, or `None` where these are fewer; an inner error
 /// where there is no memory for them.
+#[tactic(auto, using(crate::proofs::Bodies::begun_whole, crate::proofs::Bodies::read_short, crate::proofs::Bodies::read_whole, crate::proofs::Bytes::takes_added, crate::proofs::Bytes::takes_none, crate::proofs::Bytes::takes_within, crate::proofs::Bodies::written_whole))]
 pub(crate) fn read_body<R: Read>(
     alloc: Global,
     reader: &mut R,
@@ -202,6 +203,7 @@ fn framing_by(text: &[u8], limit: usize) -> Framing
 }
 
 // The number of a text of one digit or more; the greatest usize stands for one past it.
+#[tactic(auto, using(crate::proofs::Lengths::length_of_all, crate::proofs::Lengths::length_of_no_text, crate::proofs::Lengths::length_of_none, crate::proofs::Lengths::more_digits, crate::proofs::Lengths::more_value))]
 fn length_in(text: &[u8]) -> Option<usize>
     ensures { MatchOption result (length_in text.now ≡ None) (λ n. (m : ℕ) × (length_in text.now ≡ Some m) × (n ≡ saturated m)) }
 {
@@ -252,6 +254,7 @@ fn value_of<'b>(buffer: &'b [u8], header: HeaderSpan) -> &'b [u8]
 }
 
 // What was found, and one more field.
+#[tactic(auto, using(crate::proofs::Fields::values_snoc))]
 fn and_field<'b>(found: Found<'b>, name: &[u8], value: &'b [u8], wanted: &[u8]) -> Found<'b>
     ensures { (fields : List (List ℕ × List ℕ)) → FoundIs (values_of wanted.now fields) found.entry
         → FoundIs (values_of wanted.now (fields ++ (name.now, value.now) ∷ [])) result }
@@ -296,6 +299,7 @@ impl fmt::Display for ReadFailed {
 impl Error for ReadFailed {}
 
 // Reads once, and again where a signal came between. 0 bytes come at the end alone.
+#[tactic(auto, using(crate::proofs::Bytes::kept_consumes))]
 fn read_some<R: Read>(reader: &mut R, free: &mut [u8]) -> Result<usize, ReadFailed>
     ensures within { IfOk result (λ n. n ≤ length free.new) }
     ensures bytes { IfOk result (λ n. Consumes (R.remaining reader.old) (R.remaining reader.new) (take n free.new)) }

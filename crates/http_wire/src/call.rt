@@ -56,6 +56,7 @@ pub fn read_call<R: Read>(alloc: Global, reader: &mut R) -> Result<ParsedRequest
 /// # Errors
 ///
 /// Where the reader fails.
+#[tactic(auto, using(crate::proofs::Parsing::complete_read, crate::proofs::Parsing::malformed_parsed, crate::proofs::Bytes::takes_then, crate::proofs::Bytes::takes_within, crate::proofs::Parsing::too_large_parsed))]
 pub fn read_call_by<R: Read>(
     alloc: Global,
     routes: &mut Routes,
@@ -76,6 +77,7 @@ pub fn read_call_by<R: Read>(
 }
 
 // The request whose head lies at these spans of the bytes that were read.
+#[tactic(auto, using(crate::proofs::Fields::headers_within, crate::proofs::Asked::read_same, crate::proofs::Bytes::takes_none, crate::proofs::Fields::token_is_text))]
 fn read_headed<R: Read>(
     alloc: Global,
     routes: &mut Routes,
@@ -182,6 +184,7 @@ fn behind(bytes: &[u8], len: usize) -> &[u8]
 }
 
 // The request of this method by a plan for it, with what was begun behind its head; an inner error where memory was refused.
+#[tactic(auto, using(crate::proofs::Limits::body_within, crate::proofs::Asked::request_behind, crate::proofs::Bytes::takes_none, crate::proofs::Bytes::takes_within, crate::proofs::Asked::whatever_is_left))]
 fn read_planned<R: Read>(
     alloc: Global,
     reader: &mut R,
@@ -222,6 +225,7 @@ pub enum HeadRead {
 }
 
 // Reads until a head is there, it can be one no more, the input ends, or the buffer is full; tells how far it read.
+#[tactic(auto, using(crate::proofs::Bytes::consumes_more))]
 fn read_head<R: Read>(
     reader: &mut R,
     buffer: &mut [u8],

@@ -138,6 +138,7 @@ fn has_index(body: &Body, nonce: bool) -> bool
 // ---- the pieces
 
 // The phrase of a status (RFC 9110, 15).
+#[tactic(auto, using(crate::proofs::Phrases::phrase_of_code, crate::proofs::Phrases::phrase_of_none))]
 fn phrase_of(status: u16) -> &'static str
     ensures { result.now ≡ phrase status }
 {

@@ -1,22 +1,9 @@
 use Rattle.std.proofs.Common.{refl, rules, ◌∙◌}
 use Rattle.std.specs.Io.Buffered.{reader_remaining}
 use Rattle.app_batch.specs.InTurn.{unread, untold}
-use Rattle.app_batch.proofs.Turning.{answered_all, answered_more, answered_none, read_next, remaining_anew, stops_behind, told_stop}
-use Rattle.desk.proofs.SeeingDesks.{same_policy, seen_once_more, seen_untouched}
+use Rattle.app_batch.proofs.Turning.{answered_more, answered_none, read_next, stops_behind, told_stop}
+use Rattle.desk.proofs.SeeingDesks.{same_policy, seen_once_more}
 use Rattle.app_batch.proofs.lines.answer_lines.Goals as goal
-
-pub returns-in_default-clause-seen : goal.returns-in_default-clause-seen
-returns-in_default-clause-seen g c = seen_untouched g.K.Kept.sight c.args.desk.now c.args.desk.now refl
-
-pub loop-number-init : goal.loop-number-init
-loop-number-init g c = record {
-  seen = seen_untouched g.K.Kept.sight c.args.desk.now c.args.desk.now refl;
-  policy = refl;
-  answered =
-      answered_none g.K.Kept.sight (g.R.Read.remaining c.args.reader) (reader_remaining g.R.Read.remaining c.in-Ok.reader)
-      (g.W.Write.contents c.args.writer.now) c.args.desk.now
-      (remaining_anew g.R.Read.remaining c.in-Ok.reader c.args.reader c.in-Ok.ensures.inner c.in-Ok.ensures.empty c.in-Ok.ensures.capacity);
-}
 
 pub loop-number-preserved : goal.loop-number-preserved
 loop-number-preserved g c =
@@ -37,10 +24,6 @@ pub returns-in_err-answer_line-clause-seen : goal.returns-in_err-answer_line-cla
 returns-in_err-answer_line-clause-seen g c =
     seen_once_more g.K.Kept.sight c.args.desk.now c.loop-number.desk c.answer_line.new.desk c.loop-number.invariant.seen c.in_err-answer_line.ensures.acts
 
-pub returns-in_err-answer_line-clause-policy : goal.returns-in_err-answer_line-clause-policy
-returns-in_err-answer_line-clause-policy g c =
-    same_policy g.K.Kept.sight c.loop-number.desk c.answer_line.new.desk c.in_err-answer_line.ensures.acts ∙ c.loop-number.invariant.policy
-
 pub returns-in_default-clause-answered : goal.returns-in_default-clause-answered
 returns-in_default-clause-answered g c =
     let bytes = g.R.Read.remaining c.args.reader in
@@ -56,12 +39,6 @@ returns-in_err-next_line-clause-answered g c =
     told_stop g.K.Kept.sight bytes was is c.args.desk.now c.loop-number.desk c.from_residual.result c.from_residual.ensures.0
     (stops_behind g.K.Kept.sight bytes (reader_remaining g.R.Read.remaining c.loop-number.reader) was is is c.args.desk.now c.loop-number.desk
     c.loop-number.desk c.loop-number.invariant.answered (unread refl refl))
-
-pub returns-then-not-branch-clause-answered : goal.returns-then-not-branch-clause-answered
-returns-then-not-branch-clause-answered g c =
-    answered_all g.K.Kept.sight (g.R.Read.remaining c.args.reader) (reader_remaining g.R.Read.remaining c.loop-number.reader)
-    (g.W.Write.contents c.args.writer.now) (g.W.Write.contents c.loop-number.writer) c.args.desk.now c.loop-number.desk
-    c.loop-number.invariant.answered (c.in_ok-next_line.ensures.none (search rules))
 
 pub returns-in_err-answer_line-clause-answered : goal.returns-in_err-answer_line-clause-answered
 returns-in_err-answer_line-clause-answered g c =

@@ -1,11 +1,7 @@
 use Rattle.std.proofs.Common.{subst}
 use Rattle.std.specs.Io.KnownBytes.{Appends}
-use Rattle.app_page.proofs.Writing.{writes_each, writes_next, writes_nothing}
+use Rattle.app_page.proofs.Writing.{writes_next}
 use Rattle.app_page.proofs.pieces.write_pieces.Goals as goal
-
--- none was written
-pub loop-piece-init : goal.loop-piece-init
-loop-piece-init g c = writes_nothing g.P.Piece.html (g.W.Write.contents c.args.out.now) c.args.pieces.now
 
 -- the next piece
 pub loop-piece-preserved : goal.loop-piece-preserved
@@ -13,7 +9,3 @@ loop-piece-preserved g c =
     writes_next g.P.Piece.html _ _ _ c.args.pieces.now c.loop-piece.piece-index _ c.loop-piece-test.true c.loop-piece.invariant
     (subst (λ p. Appends (g.W.Write.contents c.loop-piece.out) (g.W.Write.contents c.write_piece.new.out) (g.P.Piece.html p)) c.piece-item.is
     c.in_ok-write_piece.ensures)
-
--- all of them
-pub returns : goal.returns
-returns g c = writes_each g.P.Piece.html _ _ c.args.pieces.now c.loop-piece.piece-index c.loop-piece-test.false c.loop-piece.invariant

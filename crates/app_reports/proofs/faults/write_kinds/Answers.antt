@@ -1,12 +1,10 @@
-use Rattle.std.proofs.Common.{rules, ◌≢◌, ◌↔◌, ◌+◌, List, [], ◌∷◌, IsTrue, ap, drop, get_or, subst, sym}
-use Rattle.std.proofs.lemmas.List.{at_drop_more, drop_all}
-use Rattle.std.specs.{Io.KnownBytes.Appends, List.flat_map}
-use Rattle.store_passes.proofs.Alls.{kinds_make_all}
+use Rattle.std.proofs.Common.{rules, ◌+◌, List, [], ◌∷◌, drop, get_or, subst, sym}
+use Rattle.std.proofs.lemmas.List.{at_drop_more}
+use Rattle.std.specs.List.{flat_map}
 use Rattle.store_passes.specs.{Left.faults_of, declared.fault_kind.FaultKind.FaultKind}
 use Rattle.store_passes.specs.declared.fault_kind.FaultKind.TheVariants.{Account, Order, Authorization, Challenge}
-use Rattle.app_reports.proofs.Searching.{Searches, tells, turn_found, turn_passed}
-use Rattle.app_reports.proofs.{Printing.writes_all, Printing.writes_part, faults.write_kinds.Goals.then-branch, faults.write_kinds.Goals.else-branch}
-use Rattle.app_reports.specs.Printed.{lines_of}
+use Rattle.app_reports.proofs.Searching.{Searches, turn_found, turn_passed}
+use Rattle.app_reports.proofs.{Printing.writes_part, faults.write_kinds.Goals.then-branch, faults.write_kinds.Goals.else-branch}
 use Rattle.app_reports.proofs.faults.write_kinds.Goals as goal
 
 -- all kinds
@@ -37,19 +35,3 @@ loop-kind-preserved g c = record {
       (c.loop-kind.invariant.printed before T holds now) (at_drop_more (flat_map (faults_of T)) kinds c.loop-kind.kind-index Account c.loop-kind-test.true)
       here;
 }
-
--- the four kinds make all faults
-pub returns-clause-found : goal.returns-clause-found
-returns-clause-found g c honest T holds now =
-    subst (λ all. IsTrue c.loop-kind.found ↔ all ≢ []) (kinds_make_all T)
-    (tells c.loop-kind.found (flat_map (faults_of T) kinds)
-    (subst (λ l. Searches c.loop-kind.found (flat_map (faults_of T) kinds) (flat_map (faults_of T) l))
-    (drop_all c.loop-kind.kind-index kinds c.loop-kind-test.false) (c.loop-kind.invariant.found honest T holds now)))
-
--- and their lines
-pub returns-clause-printed : goal.returns-clause-printed
-returns-clause-printed g c honest T holds now =
-    subst (λ all. Appends (g.W.Write.contents c.args.out.now) (g.W.Write.contents c.loop-kind.out) (lines_of c.args.form all)) (kinds_make_all T)
-    (writes_all c.args.form _ _ (flat_map (faults_of T) kinds) (flat_map (faults_of T) (drop c.loop-kind.kind-index kinds))
-    (c.loop-kind.invariant.printed honest T holds now)
-    (ap (flat_map (faults_of T)) (drop_all c.loop-kind.kind-index kinds c.loop-kind-test.false)))

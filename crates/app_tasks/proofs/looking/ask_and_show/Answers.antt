@@ -1,5 +1,4 @@
-use Rattle.std.proofs.Common.{◌≡◌, ◌∙◌, [], List, ℕ, Ok, ap, refl, subst}
-use Rattle.std.proofs.KnownBytes.{Appends-nil}
+use Rattle.std.proofs.{Common.◌≡◌, Common.◌∙◌, Common.[], Common.List, Common.ℕ, Common.Ok, Common.ap, Common.refl, Common.subst, KnownBytes.Appends-nil}
 use Rattle.std.specs.Prelude.{◌↔◌, IsTrue}
 use Rattle.app_tasks.specs.Looking as looking
 use Rattle.app_tasks.proofs.looking.ask_and_show.Goals as goal

@@ -1,4 +1,4 @@
-use Rattle.std.proofs.Common.{◌∙◌, None}
+use Rattle.std.proofs.Common.{None, ◌∙◌}
 use Rattle.desk_http.proofs.Refusing.{late_changes_nothing, refused_late}
 use Rattle.desk_http.proofs.connections.respond_at.Goals as goal
 

@@ -1,6 +1,6 @@
-use Rattle.std.proofs.Common.{refl, rules}
 use Rattle.desk_http.proofs.Ending.{match_of}
 use Rattle.desk_http.proofs.connections.respond_with_random.Goals as goal
+use Rattle.std.proofs.Common.{refl, rules}
 
 pub returns-clause-served : goal.returns-clause-served
 returns-clause-served g c = λ remaining is. (

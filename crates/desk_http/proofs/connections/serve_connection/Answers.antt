@@ -1,7 +1,9 @@
-use Rattle.std.proofs.Common.{refl, subst}
 use Rattle.desk_http.proofs.{Ending.client_ends, Ending.ends_next, Turns.serves_next}
-use Rattle.desk_http.specs.{InTurn.fault_after, Showing.shower, Logged.IsLogEntryOf, Logged.as_log_entry}
 use Rattle.desk_http.proofs.connections.serve_connection.Goals as goal
+use Rattle.std.proofs.Common.{refl, subst}
+use Rattle.desk_http.specs.InTurn.{fault_after}
+use Rattle.desk_http.specs.Showing.{shower}
+use Rattle.desk_http.specs.Logged.{IsLogEntryOf, as_log_entry}
 
 pub returns-clause-served : goal.returns-clause-served
 returns-clause-served g c =

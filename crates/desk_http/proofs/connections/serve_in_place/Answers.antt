@@ -1,7 +1,9 @@
-use Rattle.std.proofs.Common.{◌≡◌, ◌∙◌, None, ap, refl, subst, sym}
-use Rattle.http_wire.specs.declared.call.ParsedRequest.{ParsedRequest}
-use Rattle.desk_http.specs.{InTurn.looked, InTurn.parsed, Logged.object_asked, Showing.looked_in}
+use Rattle.std.proofs.Common.{None, ◌≡◌, ◌∙◌, ap, refl, subst, sym}
 use Rattle.desk_http.proofs.connections.serve_in_place.Goals as goal
+use Rattle.http_wire.specs.declared.call.ParsedRequest.{ParsedRequest, ParsedRequest}
+use Rattle.desk_http.specs.InTurn.{looked, parsed}
+use Rattle.desk_http.specs.Logged.{object_asked}
+use Rattle.desk_http.specs.Showing.{looked_in}
 
 pub returns-in-Some-clause-served : goal.returns-in-Some-clause-served
 returns-in-Some-clause-served g c remaining is =

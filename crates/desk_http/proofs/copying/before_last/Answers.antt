@@ -1,6 +1,7 @@
-use Rattle.std.proofs.{Common.◌≡◌, Common.◌∙◌, Common.true, Common.refl, lemmas.Slice.Eq.bytes_eq-Decides}
+use Rattle.std.proofs.{Common.true, lemmas.Slice.Eq.bytes_eq-Decides}
 use Rattle.desk_http.proofs.Pieces.{no_last}
 use Rattle.desk_http.proofs.copying.before_last.Goals as goal
+use Rattle.std.proofs.Common.{◌≡◌, ◌∙◌, refl}
 
 pub returns-else-eq : goal.returns-else-eq
 returns-else-eq c =

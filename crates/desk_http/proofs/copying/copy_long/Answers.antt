@@ -1,4 +1,4 @@
-use Rattle.std.proofs.Common.{[], ◌++◌, ◌-◌, append-nil, arith, length, subst, take}
+use Rattle.std.proofs.Common.{append-nil, arith, length, take, [], ◌++◌, ◌-◌, subst}
 use Rattle.std.proofs.{KnownBytes.Appends-nil, KnownBytes.Appends-trans, KnownBytes.Consumes-nil, lemmas.List.take_all}
 use Rattle.desk_http.proofs.Pieces.{HasCopied, copied_long, copied_next, where_failed, writes_more}
 use Rattle.desk_http.proofs.copying.copy_long.Goals as goal

@@ -1,21 +1,7 @@
-use Rattle.std.proofs.Common.{None, Ok, Some, refl, ◌∙◌}
+use Rattle.std.proofs.{Common.None, Common.Ok, Common.Some}
 use Rattle.desk_http.proofs.Parsing.{answered, fails, form_parsed}
 use Rattle.desk_http.proofs.serving.respond.Goals as goal
-
-pub returns-in-Ok-send-clause-served : goal.returns-in-Ok-send-clause-served
-returns-in-Ok-send-clause-served g c remaining is =
-    let reply = c.in-Ok.ensures.reply in (
-      c.args.parsed.form,
-      form_parsed remaining c.args.parsed is,
-      (
-        reply.0,
-        answered g.K.Kept.sight g.K.Storage.causes c.args.at c.args.random.now remaining c.args.parsed c.args.desk.now c.reply_bytes.new.desk
-            (Ok reply.0) is reply.1,
-        rw (c.as_slice.ensures.value ∙ reply.2) at c.in-Ok-send.ensures.took,
-        refl,
-        reply.3,
-      ),
-    )
+use Rattle.std.proofs.Common.{refl, ◌∙◌}
 
 pub returns-in-Ok-clause-failed : goal.returns-in-Ok-clause-failed
 returns-in-Ok-clause-failed g c remaining is =

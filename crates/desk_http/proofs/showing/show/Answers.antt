@@ -1,5 +1,5 @@
-use Rattle.desk_http.specs.Showing.{begun}
 use Rattle.desk_http.proofs.showing.show.Goals as goal
+use Rattle.desk_http.specs.Showing.{begun, begun}
 
 pub returns-in-Ok-clause-shows : goal.returns-in-Ok-clause-shows
 returns-in-Ok-clause-shows g c =

@@ -1,5 +1,4 @@
-use Rattle.std.proofs.Common.{◌+◌, ◌∙◌, List, [], ◌∷◌, ap, sym, drop}
-use Rattle.std.proofs.lemmas.List.{at_drop_more, at_drop_all}
+use Rattle.std.proofs.{Common.◌+◌, Common.◌∙◌, Common.List, Common.[], Common.◌∷◌, Common.ap, Common.sym, Common.drop, lemmas.List.at_drop_more}
 use Rattle.http_routes.specs.{Router.with_routes, declared.routes.Route.Route}
 use Rattle.http_routes.specs.declared.routes.Route.TheVariants as route
 use Rattle.http_routes.proofs.routes.add_all.Goals as goal
@@ -11,15 +10,8 @@ routes =
     route.Cert ∷ route.Authz ∷ route.Chall ∷ route.Key ∷ route.ChallengeWork ∷ route.OrderWork ∷ route.Report ∷ route.Certify ∷ route.FailOrder ∷
     route.RevokeAuthz ∷ route.RevokeAccount ∷ route.Page ∷ route.Look ∷ route.Metrics ∷ route.Backup ∷ []
 
-pub loop-route-init : goal.loop-route-init
-loop-route-init c = ap (λ rows. with_routes rows (drop 0 routes)) c.requires
-
 pub loop-route-preserved : goal.loop-route-preserved
 loop-route-preserved c =
     ap (λ rows. with_routes rows (drop (c.loop-route.route-index + 1) routes)) c.in_ok-add.ensures
     ∙ sym (at_drop_more (with_routes c.loop-route.router) routes c.loop-route.route-index route.Directory c.loop-route-test.true)
     ∙ c.loop-route.invariant
-
-pub returns : goal.returns
-returns c =
-    sym (at_drop_all (with_routes c.loop-route.router) routes c.loop-route.route-index c.loop-route-test.false) ∙ c.loop-route.invariant

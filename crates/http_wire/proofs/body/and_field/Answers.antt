@@ -1,4 +1,4 @@
-use Rattle.std.proofs.Common.{◌≡◌, true, false, sym, ◌∙◌, append-nil}
+use Rattle.std.proofs.Common.{◌≡◌, true, sym, ◌∙◌}
 use Rattle.http_wire.specs.Framing.{same_name, values_of}
 use Rattle.http_wire.proofs.Fields.{values_snoc}
 use Rattle.http_wire.proofs.body.and_field.Goals as goal
@@ -7,8 +7,3 @@ pub returns-then-is_called : goal.returns-then-is_called
 returns-then-is_called c = λ fields h.
     let yes : same_name c.args.name.now c.args.wanted.now ≡ true = sym c.is_called.ensures ∙ c.if-is_called.true in
     rw (values_snoc c.args.wanted.now fields (c.args.name.now, c.args.value.now), yes) (c.and_one.ensures (values_of c.args.wanted.now fields) h)
-
-pub returns-else-is_called : goal.returns-else-is_called
-returns-else-is_called c = λ fields h.
-    let no : same_name c.args.name.now c.args.wanted.now ≡ false = sym c.is_called.ensures ∙ c.if-is_called.false in
-    rw (values_snoc c.args.wanted.now fields (c.args.name.now, c.args.value.now), no, append-nil) h

@@ -1,5 +1,5 @@
-use Rattle.std.proofs.{Common.◌≤◌, Common.◌+◌, Common.arith, Common.length, Common.take, lemmas.List.length-take}
-use Rattle.http_wire.proofs.{Parsing.malformed_parsed, Parsing.too_large_parsed, Parsing.complete_read, Bytes.takes_then, Bytes.takes_within}
+use Rattle.std.proofs.{Common.◌≤◌, Common.arith, Common.length, Common.take, lemmas.List.length-take}
+use Rattle.http_wire.proofs.{Parsing.malformed_parsed, Parsing.too_large_parsed, Parsing.complete_read, Bytes.takes_then}
 use Rattle.http_wire.proofs.call.read_call_by.Goals as goal
 use Rattle.desk_model.specs.Limits.{longest_body, longest_head}
 
@@ -32,22 +32,3 @@ returns-in-Complete-clause-taken g c =
     let le : length bytes ≤ longest_head = omega (arith, length-take c.in_ok-head.filled c.read_head.new.buffer) in
     takes_then remaining behind_head (g.R.Read.remaining c.read_headed.new.reader) longest_head longest_body (bytes, c.in_ok-head.ensures.bytes, le)
     c.read_headed.ensures.taken
-
-pub returns-in-Malformed-clause-taken : goal.returns-in-Malformed-clause-taken
-returns-in-Malformed-clause-taken g c =
-    let bytes = take c.in_ok-head.filled c.read_head.new.buffer in
-    let le : length bytes ≤ longest_head = omega (arith, length-take c.in_ok-head.filled c.read_head.new.buffer) in
-    takes_within (g.R.Read.remaining c.args.reader.now) (g.R.Read.remaining c.read_head.new.reader) longest_head (longest_head + longest_body)
-    (omega arith) (bytes, c.in_ok-head.ensures.bytes, le)
-
-pub returns-in-TooLarge-clause-taken : goal.returns-in-TooLarge-clause-taken
-returns-in-TooLarge-clause-taken g c =
-    let bytes = take c.in_ok-head.filled c.read_head.new.buffer in
-    let le : length bytes ≤ longest_head = omega (arith, length-take c.in_ok-head.filled c.read_head.new.buffer) in
-    takes_within (g.R.Read.remaining c.args.reader.now) (g.R.Read.remaining c.read_head.new.reader) longest_head (longest_head + longest_body)
-    (omega arith) (bytes, c.in_ok-head.ensures.bytes, le)
-
-pub returns-in_err-head-clause-taken : goal.returns-in_err-head-clause-taken
-returns-in_err-head-clause-taken g c =
-    takes_within (g.R.Read.remaining c.args.reader.now) (g.R.Read.remaining c.read_head.new.reader) longest_head (longest_head + longest_body)
-    (omega arith) c.in_err-head.ensures.failed

@@ -1,19 +1,8 @@
-use Rattle.http_wire.specs.{ParsedRequest.IsPlan, Spelled.IsRequestWith}
-use Rattle.http_routes.specs.declared.request.Request.TheVariants as request
+use Rattle.http_wire.specs.ParsedRequest.{IsPlan}
 use Rattle.http_wire.specs.declared.call.Plan.TheVariants as plan
-use Rattle.http_wire.proofs.{Asked.request_behind, Asked.whatever_is_left, Bytes.takes_none, Bytes.takes_within, Limits.body_within}
+use Rattle.http_wire.proofs.{Asked.request_behind, Bytes.takes_within, Limits.body_within}
 use Rattle.http_wire.proofs.call.read_planned.Goals as goal
 use Rattle.desk_model.specs.Limits.{longest_body}
-
-pub returns-in-Refused-clause-request : goal.returns-in-Refused-clause-request
-returns-in-Refused-clause-request g c = λ path link fields given.
-    let p : IsPlan c.args.method.now path fields (plan.Refused c.in-Refused.why) =
-    rw c.in-Refused.is at given in
-    whatever_is_left (g.R.Read.remaining c.args.reader.now) c.args.begun.now
-    (λ rest. IsRequestWith c.args.method.now path fields rest (request.Refused c.in-Refused.why)) p
-
-pub returns-in-Refused-clause-taken : goal.returns-in-Refused-clause-taken
-returns-in-Refused-clause-taken g c = λ path fields given. takes_none (g.R.Read.remaining c.args.reader.now) longest_body
 
 pub returns-in-Ok-clause-request : goal.returns-in-Ok-clause-request
 returns-in-Ok-clause-request g c = λ path link fields given.
@@ -25,13 +14,6 @@ returns-in-Ok-clause-request g c = λ path link fields given.
 
 pub returns-in-Ok-clause-taken : goal.returns-in-Ok-clause-taken
 returns-in-Ok-clause-taken g c = λ path fields given.
-    let p : IsPlan c.args.method.now path fields (plan.Takes c.in-Takes.resource c.in-Takes.count) =
-    rw c.in-Takes.is at given in
-    takes_within (g.R.Read.remaining c.args.reader.now) (g.R.Read.remaining c.read_body.new.reader) c.in-Takes.count longest_body
-    (body_within c.in-Takes.resource fields c.in-Takes.count p.1) c.read_body.ensures.taken
-
-pub returns-in_err-body-in-Takes-clause-taken : goal.returns-in_err-body-in-Takes-clause-taken
-returns-in_err-body-in-Takes-clause-taken g c = λ path fields given.
     let p : IsPlan c.args.method.now path fields (plan.Takes c.in-Takes.resource c.in-Takes.count) =
     rw c.in-Takes.is at given in
     takes_within (g.R.Read.remaining c.args.reader.now) (g.R.Read.remaining c.read_body.new.reader) c.in-Takes.count longest_body
