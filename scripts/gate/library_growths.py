@@ -26,13 +26,12 @@ MAIN = r"""
 //! Calls of the library, one growth refused; each is made again with memory.
 #![tactic(auto)]
 use desk_book::{Book, Row, Table};
-use desk::{Desk, DeskFault, Memory};
+use desk::{Desk, DeskFault};
 use desk_core::decide;
 use desk_model::*;
 use store_api::{Kept, ParsedCall, Storage, StorageFault};
 use std::alloc::Global;
 use std::io::BufRead;
-use std::marker::Model;
 use std::process::ExitCode;
 use store_book::{RowsFault, from_rows};
 use store_columns::*;
@@ -87,10 +86,49 @@ fn policy(alloc: Global) -> Option<Policy> {
 
 // ---- run
 
+// A store of one book, each part of which is the whole; it saves nothing where it cannot.
+#[derive(Drop)]
+struct Rows {
+    book: Book,
+    can_save: bool,
+}
+
+impl Rows {
+    fn make(alloc: Global, can_save: bool) -> Option<Rows> {
+        Some(Rows { book: Book::new(alloc, policy(alloc)?, Clock::at(0)), can_save })
+    }
+}
+
+// Nothing is proved of it: what may be said of it is left open.
+impl Kept for Rows {
+    ghost Content = { Unit {0} };
+
+    ghost sight = { ? };
+}
+
+impl Storage for Rows {
+    ghost causes = { λ _ _ _ _. Unit {0} };
+
+    fn policy(&mut self, _: Global) -> Result<Policy, StorageFault> {
+        Ok(self.book.meta().policy.clone()?)
+    }
+
+    fn load_part(&mut self, _: Global, _: &ParsedCall) -> Result<Book, StorageFault> {
+        Ok(self.book.clone()?)
+    }
+
+    fn save(&mut self, _: Global, _: &Book, changes: Vec<Change>) -> Result<(), StorageFault> {
+        if !self.can_save {
+            return Err(StorageFault::Device);
+        }
+        Ok(self.book.apply(changes)?)
+    }
+}
+
 // Makes the calls, and those that a refusal left unmade again; what is answered is in either case the same. It says whether one was refused.
 fn run_calls(alloc: Global) -> Option<bool> {
     let calls = calls(alloc)?;
-    let mut desk = Desk::adopt(alloc, Memory::make(alloc, policy(alloc)?, Clock::at(0))).ok()?;
+    let mut desk = Desk::adopt(alloc, Rows::make(alloc, true)?).ok()?;
     let (replies, fault) = desk.run(alloc, calls.as_slice());
     let made = replies.len();
     match fault {
@@ -291,45 +329,6 @@ fn make_book(alloc: Global, book: &Book) -> Option<bool> {
 
 // ---- calls that take no memory
 
-// Tables in memory, none of which can be saved.
-#[derive(Drop)]
-struct Unsaved {
-    memory: Memory,
-}
-
-impl Model for Unsaved {
-    ghost use Rattle.desk_model.specs.Tables.{Tables};
-
-    ghost Value = { Tables };
-
-    ghost view = { λ unsaved. unsaved.memory };
-}
-
-impl Kept for Unsaved {
-    ghost use Rattle.desk_model.specs.Tables.{Tables};
-    ghost use Rattle.store_api.specs.InMemory.{in_memory};
-
-    ghost Content = { Tables };
-
-    ghost sight = { in_memory };
-}
-
-impl Storage for Unsaved {
-    ghost causes = { λ _ _ _ _. Unit {0} };
-
-    fn policy(&mut self, alloc: Global) -> Result<Policy, StorageFault> {
-        self.memory.policy(alloc)
-    }
-
-    fn load_part(&mut self, alloc: Global, call: &ParsedCall) -> Result<Book, StorageFault> {
-        self.memory.load_part(alloc, call)
-    }
-
-    fn save(&mut self, _: Global, _: &Book, _: Vec<Change>) -> Result<(), StorageFault> {
-        Err(StorageFault::Device)
-    }
-}
-
 // Each call is answered by this fault, and the desk's run of all of them ends at once by it.
 fn declines<K: Storage + Drop>(alloc: Global, desk: &mut Desk<K>, calls: &[Call], fault: DeskFault) {
     for call in calls {
@@ -342,8 +341,7 @@ fn declines<K: Storage + Drop>(alloc: Global, desk: &mut Desk<K>, calls: &[Call]
 // A desk that a failure closed answers so to whatever it is asked, also past the last moment, until it is opened again.
 fn ask_closed(alloc: Global) -> Option<()> {
     let calls = calls(alloc)?;
-    let store = Unsaved { memory: Memory::make(alloc, policy(alloc)?, Clock::at(0)) };
-    let mut desk = Desk::adopt(alloc, store).ok()?;
+    let mut desk = Desk::adopt(alloc, Rows::make(alloc, false)?).ok()?;
     match desk.answer(alloc, calls.first()?).err() {
         Some(DeskFault::Device) => {}
         Some(DeskFault::Memory) => return None,
@@ -369,10 +367,10 @@ fn late(alloc: Global) -> Option<Vec<Call>> {
 // An open desk declines calls past the last moment, and stays open.
 fn ask_late(alloc: Global) -> Option<()> {
     let late = late(alloc)?;
-    let mut desk = Desk::adopt(alloc, Memory::make(alloc, policy(alloc)?, Clock::at(0))).ok()?;
+    let mut desk = Desk::adopt(alloc, Rows::make(alloc, true)?).ok()?;
     declines(alloc, &mut desk, late.as_slice(), DeskFault::Moment);
     expect(desk.answer_office(alloc, 250000000001, OfficeAsk::RevokeAccount(1)).err() == Some(DeskFault::Moment));
-    expect(!desk.is_closed() && shape(desk.into_store().book()) == [0; 10]);
+    expect(!desk.is_closed() && shape(&desk.into_store().book) == [0; 10]);
     Some(())
 }
 

@@ -5,11 +5,9 @@ mod desk;
 mod fault;
 mod laws;
 mod looking;
-mod memory;
 mod office;
 
 pub use desk::{Desk, Unadopted};
 pub use fault::DeskFault;
 pub use laws::stores_live;
 pub use looking::{Look, LookFault};
-pub use memory::Memory;

@@ -1,6 +1,6 @@
 use crate::failing_streams::{FailingReader, FailingWriter};
-use crate::first_nonce::{ASKS_NONCE, FIRST_NONCE, new_desk, serve};
-use desk::{Desk, DeskFault, Memory};
+use crate::first_nonce::{ASKS_NONCE, FIRST_NONCE, MemoryDesk, new_desk, serve};
+use desk::DeskFault;
 use desk_http::{IoFault, Served, ask};
 use std::alloc::Global;
 use std::process::Abort;
@@ -37,7 +37,7 @@ fn hears(alloc: Global, reply: &[u8]) -> bool {
 }
 
 // Whether the desk, which has nothing yet, says so to the request that is sent.
-fn revokes_nothing(alloc: Global, desk: &mut Desk<Memory>) -> bool {
+fn revokes_nothing(alloc: Global, desk: &mut MemoryDesk) -> bool {
     hears(alloc, NOTHING_HERE) && gives(alloc, desk, REVOKES, NOTHING_HERE)
 }
 
@@ -50,7 +50,7 @@ fn new_desk_revokes_nothing(rt: &impl Abort, alloc: Global) -> Result<bool, Fail
 }
 
 // Whether the desk gives this reply.
-fn gives(alloc: Global, desk: &mut Desk<Memory>, asked: &[u8], reply: &[u8]) -> bool {
+fn gives(alloc: Global, desk: &mut MemoryDesk, asked: &[u8], reply: &[u8]) -> bool {
     let mut input = asked;
     let mut output = Vec::new(alloc);
     let served = serve(alloc, &mut input, &mut output, desk);
@@ -58,7 +58,7 @@ fn gives(alloc: Global, desk: &mut Desk<Memory>, asked: &[u8], reply: &[u8]) -> 
 }
 
 // Whether a reader that fails behind these bytes is told, and nothing is written.
-fn fails_to_read(alloc: Global, desk: &mut Desk<Memory>, bytes: &[u8]) -> bool {
+fn fails_to_read(alloc: Global, desk: &mut MemoryDesk, bytes: &[u8]) -> bool {
     let mut reader = FailingReader { bytes };
     let mut output = Vec::new(alloc);
     let served = serve(alloc, &mut reader, &mut output, desk);
@@ -66,7 +66,7 @@ fn fails_to_read(alloc: Global, desk: &mut Desk<Memory>, bytes: &[u8]) -> bool {
 }
 
 // Whether this is so behind each beginning of a request.
-fn fails_to_read_all(alloc: Global, desk: &mut Desk<Memory>) -> bool {
+fn fails_to_read_all(alloc: Global, desk: &mut MemoryDesk) -> bool {
     for at in 0..POSTED.len() {
         if !fails_to_read(alloc, desk, &POSTED[..at]) {
             return false;
@@ -76,7 +76,7 @@ fn fails_to_read_all(alloc: Global, desk: &mut Desk<Memory>) -> bool {
 }
 
 // Whether a desk gives its first nonce after readers that fail.
-fn gives_nonce_after_failures(alloc: Global, desk: &mut Desk<Memory>) -> bool {
+fn gives_nonce_after_failures(alloc: Global, desk: &mut MemoryDesk) -> bool {
     fails_to_read_all(alloc, desk) && gives(alloc, desk, ASKS_NONCE, FIRST_NONCE)
 }
 
@@ -97,7 +97,7 @@ fn new_desk_fails_to_write(rt: &impl Abort, alloc: Global, room: usize) -> Resul
 }
 
 // Whether a writer that fails behind so many bytes is told, and the desk gives the nonce all the same.
-fn fails_to_write(alloc: Global, desk: &mut Desk<Memory>, room: usize) -> bool {
+fn fails_to_write(alloc: Global, desk: &mut MemoryDesk, room: usize) -> bool {
     let mut input = ASKS_NONCE;
     let mut writer = FailingWriter { room };
     let served = serve(alloc, &mut input, &mut writer, desk);

@@ -1,7 +1,7 @@
 //! The specification's first calls in one run of a desk, with their replies (docs/SPECIFICATION.md, 16).
 use crate::asking::{call, request};
-use crate::first_nonce::new_desk;
-use desk::{Desk, DeskFault, Memory};
+use crate::first_nonce::{MemoryDesk, new_desk};
+use desk::DeskFault;
 use desk_http::problem_document;
 use desk_model::{Ask, Body, Call, Reply, Sequence, Target, Text};
 use std::alloc::{AllocError, Global};
@@ -91,7 +91,7 @@ fn are_first(alloc: Global, replies: &[Reply]) -> Result<bool, AllocError> {
 }
 
 // Whether a run of the first calls gives the first replies, and no fault.
-fn runs_first(rt: &impl Abort, alloc: Global, desk: &mut Desk<Memory>) -> Result<bool, Fail> {
+fn runs_first(rt: &impl Abort, alloc: Global, desk: &mut MemoryDesk) -> Result<bool, Fail> {
     let calls = first_calls(rt, alloc)?;
     let (replies, fault) = desk.run(alloc, calls.as_slice());
     drop(calls);
@@ -101,7 +101,7 @@ fn runs_first(rt: &impl Abort, alloc: Global, desk: &mut Desk<Memory>) -> Result
 }
 
 // Whether a run ends at a call that lacks random bytes.
-fn ends_at_short(alloc: Global, desk: &mut Desk<Memory>) -> Result<bool, Fail> {
+fn ends_at_short(alloc: Global, desk: &mut MemoryDesk) -> Result<bool, Fail> {
     let calls = short_calls(alloc)?;
     let (replies, fault) = desk.run(alloc, calls.as_slice());
     drop(calls);

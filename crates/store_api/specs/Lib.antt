@@ -1,5 +1,4 @@
 pub mod Finding
-pub mod InMemory
 pub mod Laws
 pub mod Naming
 pub mod Needing
