@@ -119,7 +119,8 @@ pub untouched_nonces : (m : ℕ) (B : Tables) (n : ℕ) (r : List ℕ) → IsUnt
 untouched_nonces m B n r = record {
   counters = grind (arith, nat_tests, issued_counters, spent_counters);
   accounts = grind (arith, nat_tests, issued_effect, spent_effect);
-  authorizations = ap (λ (T : Tables). T.authorizations) (issued_effect m (effect m (swept m B) (spent n)) r) ∙ ap (λ (T : Tables). T.authorizations) (spent_effect m (swept m B) n);
+  authorizations = ap (λ (T : Tables). T.authorizations) (issued_effect m (effect m (swept m B) (spent n)) r)
+      ∙ ap (λ (T : Tables). T.authorizations) (spent_effect m (swept m B) n);
   orders = ap (λ (T : Tables). T.orders) (issued_effect m (effect m (swept m B) (spent n)) r) ∙ ap (λ (T : Tables). T.orders) (spent_effect m (swept m B) n);
 }
 

@@ -44,4 +44,5 @@ pub order_made : (T : Tables) (C N : Counters) (random rest : List ℕ) (account
     count ≡ sum_by made_for (map (served_name T account) ns) → tokens ≡ sum_by drawn_for (map (served_name T account) ns) →
     (N.orders < last_number) × (N.authorizations + count ≤ last_number) × (N.challenges + tokens ≤ last_number) → 16 * (1 + tokens) ≤ length random →
     (orders account asked ≡ order_for T account ns random) × NumbersLeft C (orders account asked) × BytesLeft random (orders account asked)
-order_made T C N random rest account ns asked count tokens by behind same many as_many numbers bytes = grind (arith, order_random, (order_numbered T N random account ns count tokens many as_many numbers))
+order_made T C N random rest account ns asked count tokens by behind same many as_many numbers bytes =
+    grind (arith, order_random, (order_numbered T N random account ns count tokens many as_many numbers))

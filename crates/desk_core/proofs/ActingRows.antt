@@ -164,4 +164,6 @@ may_be_wanted m t B account wanted clock is may = search (rules, swept_ascends)
 pub ordered_text : (m : ℕ) (B : Tables) (C : Counters) (account : ℕ) (wanted : List Wanted) → IsAt m B C → IsOrdered B →
     AreReusable (swept m B).authorizations wanted →
     HasTexts (effect m (swept m B) (ordered account wanted)) → (next_order B.meta.policy C account wanted).expires ≤ last_end
-ordered_text m B C account wanted at is reusable texts = grind (arith, (ordered_found m B C account wanted at is reusable), (order_ends (effect m (swept m B) (ordered account wanted)) (B.meta.counters.orders + 1) texts))
+ordered_text m B C account wanted at is reusable texts =
+    grind (arith, (ordered_found m B C account wanted at is reusable),
+      (order_ends (effect m (swept m B) (ordered account wanted)) (B.meta.counters.orders + 1) texts))

@@ -30,7 +30,9 @@ pub named-next : (ids : List Identifier) (index : ℕ) (id : Identifier) (name :
     index < length ids → id ≡ get_or ids index id → fault_of id ≡ None → name_of id.value ≡ Some name → faulty_then ≡ faulty
     → ((before : List Name) → names ≡ kept before → names_then ≡ kept (before ++ name ∷ [])) →
     AreFound ids index faulty names → AreFound ids (index + 1) faulty_then names_then
-named-next ids index id name faulty faulty_then names names_then more is sound stands same keeps known = grind (arith, nat_tests, subproblems-next, names_in-last, (subproblems-next ids index id None more is sound), (names_in-last ids index id name more is stands))
+named-next ids index id name faulty faulty_then names names_then more is sound stands same keeps known = grind (
+  arith, nat_tests, subproblems-next, names_in-last, (subproblems-next ids index id None more is sound), (names_in-last ids index id name more is stands)
+)
 
 not_empty : {X : Type 0} {A : Type 0} (xs : List X) (x : X) → xs ++ x ∷ [] ≡ [] → A
 not_empty [] x none = cc

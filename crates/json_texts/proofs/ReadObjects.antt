@@ -52,7 +52,9 @@ or_before (Some j) before = Some (plain_value j)
 found_member : (name : List ℕ) (ms : json.Members) (found : Members)
     → get_member name (plain_members ms found) ≡ or_before (json_find.get_member name ms) (get_member name found)
 found_member name json.no_members found = refl
-found_member name (json.member k j ms) found = found_member name ms (put k (plain_value j) found) ∙ grind (arith, nat_tests, bytes_eq-Decides, get_member-put, get_member-put_other)
+found_member name (json.member k j ms) found = found_member name ms (put k (plain_value j) found) ∙ grind (
+  arith, nat_tests, bytes_eq-Decides, get_member-put, get_member-put_other
+)
 
 -- so it is found in the value as in what was read
 pub plain_get : (name : List ℕ) (j : json.Json) → get name (plain_value j) ≡ option_map plain_value (json_find.get name j)

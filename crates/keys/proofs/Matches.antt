@@ -38,7 +38,9 @@ blanks_turned (b ∷ bs) all =
 
 -- a body without the blanks at its end is the text that it matches
 pub without_blanks-matched : (body expected : List ℕ) → IsBodyMatch body expected → without_blanks body ≡ expected
-without_blanks-matched body expected m = search (rules, reverse-append, stops, reverse-reverse, prefix_blanks, blanks_turned, length-prefix_len, drop-append_seam)
+without_blanks-matched body expected m = search (
+  rules, reverse-append, stops, reverse-reverse, prefix_blanks, blanks_turned, length-prefix_len, drop-append_seam
+)
 
 -- a list that has an equal one
 pub Any-records : (records : List (List ℕ)) (expected : List ℕ) → IsTrue (list_any (λ r. bytes_eq r expected) records) ↔ Any (λ r. r ≡ expected) records

@@ -57,7 +57,8 @@ removing (n ∷ ns) T = let rest = removing ns (applied_one (RemoveNonce n) T) i
 -- authorizations that are put
 put_authorizations : (T : Tables) {xs after : List AuthorizationRow} → IsPut (λ a. a.number) MovedAuthorization T.authorizations xs after →
     Leads T (map PutAuthorization xs) (record T { authorizations = after })
-put_authorizations T = put_leads (λ a. a.number) MovedAuthorization PutAuthorization (λ rows. record T { authorizations = rows }) (λ x rows. refl) (λ y rows h. h)
+put_authorizations T =
+    put_leads (λ a. a.number) MovedAuthorization PutAuthorization (λ rows. record T { authorizations = rows }) (λ x rows. refl) (λ y rows h. h)
 
 -- orders
 put_orders : (T : Tables) {xs after : List OrderRow} → IsPut (λ o. o.number) MovedOrder T.orders xs after →

@@ -16,4 +16,6 @@ serving_found T account name row in_order found = grind (arith, each_found, asce
 pub all_may_be_wanted : (T : Tables) (account : ℕ) (names : List Name) (random : List ℕ) → Ascends (λ a. a.number) 1 T.authorizations →
     list_all (may_want_on T account) (wanted T account names random) ≡ true
 all_may_be_wanted T account [] random in_order = refl
-all_may_be_wanted T account (name ∷ names) random in_order = grind (arith, serving_found, found_passes, (all_may_be_wanted T account names (left_by (serving_on T account name) name random) in_order))
+all_may_be_wanted T account (name ∷ names) random in_order = grind (
+  arith, serving_found, found_passes, (all_may_be_wanted T account names (left_by (serving_on T account name) name random) in_order)
+)

@@ -56,7 +56,8 @@ base_keeps (e ∷ F) h = by e.entry h.0.allowed (base_keeps F h.1)
 pub hold_texts : (F : History) → EachFollows F → (t : ℕ) → HoldTexts (tables_at F t)
 hold_texts F h t = record {
   meta = base_keeps F h;
-  accounts = each-map _ (account_row F) (accounts F) (each _ _ (accounts F) (λ a p. account_row_holds F h a p.0 p.1) (each_both _ _ (accounts F) (accounts_open F h) (keys_now_formed F h)));
+  accounts = each-map _ (account_row F) (accounts F)
+      (each _ _ (accounts F) (λ a p. account_row_holds F h a p.0 p.1) (each_both _ _ (accounts F) (accounts_open F h) (keys_now_formed F h)));
   authorizations = grind (arith, nat_tests, each-map, each, base_name_text, names_formed);
   orders = grind (arith, nat_tests, each-map, each_all, failure_keeps);
 }

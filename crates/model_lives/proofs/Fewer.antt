@@ -51,7 +51,8 @@ minimal_cut T m a h =
       accounts = filter_same _ _ T.accounts (each _ _ T.accounts (λ x e. sym e)
           (numbered (λ (x : AccountRow). x.number) (is_needed_account T a) 1 T.accounts h.accounts.0)) i;
       authorizations = filter_same _ _ T.authorizations (each _ _ T.authorizations (λ r e. sym e) (minimal_authorizations T m a h)) i;
-      orders = filter_same _ _ T.orders (each _ _ T.orders (λ o e. sym e) (numbered (λ (o : OrderRow). o.number) (is_needed_order T m a) 1 T.orders h.orders.0)) i;
+      orders = filter_same _ _ T.orders
+          (each _ _ T.orders (λ o e. sym e) (numbered (λ (o : OrderRow). o.number) (is_needed_order T m a) 1 T.orders h.orders.0)) i;
     }
 
 pub minimal_hold : (T : Tables) (m : ℕ) (a : Ask) → IsOrdered T → Keeps (minimal_kept T m a) (minimal_rows T m a)
@@ -189,7 +190,8 @@ minimal_held T m a none h needed =
 pub minimal_settle : (T : Tables) (m : ℕ) (a : OfficeAsk) → IsNoWork a → IsOrdered T → SettlesAs m a T (restricted (minimal_kept T m (ask.Office a)) T)
 minimal_settle T m a h k = grind (arith, minimal_without_accounts, minimal_held)
 
-pub minimal_pass : (T : Tables) (m : ℕ) (s : Signed) → IsOrdered T → IsStatedFor (ask.Signed s) m T → PassesAs m s T (restricted (minimal_kept T m (ask.Signed s)) T)
+pub minimal_pass : (T : Tables) (m : ℕ) (s : Signed) → IsOrdered T → IsStatedFor (ask.Signed s) m T →
+    PassesAs m s T (restricted (minimal_kept T m (ask.Signed s)) T)
 minimal_pass T m s h stated =
     subst (PassesAs m s T) (grown_part k T) (by (target_answers s.target s.payload) refl (target_needs_listed s.target) refl)
   where
@@ -197,7 +199,8 @@ minimal_pass T m s h stated =
     k = minimal_kept T m (ask.Signed s)
 
     restated : KeepsRestated (changes_statuses (ask.Signed s)) (grown k T) T m (ask.Signed s)
-    restated = minimal_restated k T m (ask.Signed s) (minimal_holders k T m (ask.Signed s) refl (minimal_hold T m (ask.Signed s) h)) (minimal_hold T m (ask.Signed s) h)
+    restated = minimal_restated k T m (ask.Signed s) (minimal_holders k T m (ask.Signed s) refl (minimal_hold T m (ask.Signed s) h))
+        (minimal_hold T m (ask.Signed s) h)
 
     named : KeepsNamed (grown k T) T (ask.Signed s)
     named = keeps_named k T (ask.Signed s) (minimal_named k T m (ask.Signed s) (minimal_hold T m (ask.Signed s) h))
@@ -207,4 +210,5 @@ minimal_pass T m s h stated =
         passes_answer (changes_statuses (ask.Signed s)) (grown k T) T m s s.target answers stated (grown_closed k T h (minimal_listed T m (ask.Signed s) h all))
         restated named
     by false none true all = passes_as (grown k T) T m s (minimal_ready T m (ask.Signed s) h all refl none)
-    by b answers false alone = passes_open (grown k T) T m s h alone (keeps_falling (changes_statuses (ask.Signed s)) (grown k T) T m (ask.Signed s) restated) named
+    by b answers false alone =
+        passes_open (grown k T) T m s h alone (keeps_falling (changes_statuses (ask.Signed s)) (grown k T) T m (ask.Signed s) restated) named

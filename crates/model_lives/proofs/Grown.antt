@@ -72,7 +72,8 @@ new_kept number last xs kept h n lt = or_right (kept n) (not (has_number number 
 -- it is closed
 pub grown_closed : (k : Kept) (T : Tables) → IsOrdered T → KeepsListed k T → IsClosed (grown k T) T
 grown_closed k T ordered listed = record {
-  listed = each _ _ T.orders (λ o f yes. each _ _ (numbers_of o.listed) (λ n h. or_left _ _ h) (f.1 (sym f.0 ∙ yes))) (each_both _ _ T.orders (same_kept (λ (o : OrderRow). o.number) T.orders k.orders) listed);
+  listed = each _ _ T.orders (λ o f yes. each _ _ (numbers_of o.listed) (λ n h. or_left _ _ h) (f.1 (sym f.0 ∙ yes)))
+      (each_both _ _ T.orders (same_kept (λ (o : OrderRow). o.number) T.orders k.orders) listed);
   new_nonces = search (rules, new_kept);
   new_accounts = search (rules, new_kept);
   new_authorizations = search (rules, new_kept);
@@ -148,12 +149,20 @@ keeps_named k T a h = record {
   nonce = kept_number (λ (n : Nonce). n.serial) T.nonces k.nonces (carries a) h.nonces;
   key = each _ _ T.accounts (λ x f yes. f (or_left _ _ yes)) h.accounts;
   new_key = grind (arith, each);
-  account = kept_number (λ (x : AccountRow). x.number) T.accounts k.accounts (names_account a) (each _ _ T.accounts (λ x f yes. f (or_right (has_key a x.key) _ (or_right (has_new_key a x.key) _ yes))) h.accounts);
+  account = kept_number (λ (x : AccountRow). x.number) T.accounts k.accounts (names_account a)
+      (each _ _ T.accounts (λ x f yes. f (or_right (has_key a x.key) _ (or_right (has_new_key a x.key) _ yes))) h.accounts);
   order = kept_number (λ (o : OrderRow). o.number) T.orders k.orders (names_order a) h.orders;
-  authorization = kept_number (λ (r : AuthorizationRow). r.number) T.authorizations k.authorizations (names_authorization a) (each _ _ T.authorizations (λ r f yes. f (or_left _ _ yes)) h.authorizations);
+  authorization = kept_number (λ (r : AuthorizationRow). r.number) T.authorizations k.authorizations (names_authorization a)
+      (each _ _ T.authorizations (λ r f yes. f (or_left _ _ yes)) h.authorizations);
   owner = grind (arith, each);
-  orders = each _ _ T.accounts (λ x member named. each _ _ T.orders (λ o f asked same. f (and_from _ _ asked (member (λ y. is_named_account a y && (o.account == y.number)) (and_from _ _ named same)))) h.own) (each_member T.accounts);
-  asked = each _ _ T.accounts (λ x member named. each _ _ T.authorizations (λ r f asks same. f (and_from _ _ asks (member (λ y. is_named_account a y && (r.account == y.number)) (and_from _ _ named same)))) h.asked) (each_member T.accounts);
+  orders = each _ _ T.accounts
+      (λ x member named. each _ _ T.orders
+        (λ o f asked same. f (and_from _ _ asked (member (λ y. is_named_account a y && (o.account == y.number)) (and_from _ _ named same)))) h.own)
+          (each_member T.accounts);
+  asked = each _ _ T.accounts
+      (λ x member named. each _ _ T.authorizations
+        (λ r f asks same. f (and_from _ _ asks (member (λ y. is_named_account a y && (r.account == y.number)) (and_from _ _ named same)))) h.asked)
+          (each_member T.accounts);
 }
 
 -- what is touched has the rows that are named

@@ -139,7 +139,8 @@ passes_alone T P m s j l kept h = record {
   issues = record { records = λ r. issued_same l m P kept r ∙ h.issues.records r };
   judged = grind arith;
   verdict = grind (arith, carried_list, lists);
-  records = λ r n fresh. list_records l m P (signed_verdict (swept m T) r (record s { target = to.Orders j })) kept (lists (swept m T) r s j) n fresh ∙ h.records r n fresh;
+  records = λ r n fresh. list_records l m P (signed_verdict (swept m T) r (record s { target = to.Orders j })) kept (lists (swept m T) r s j) n fresh
+      ∙ h.records r n fresh;
 }
 
 -- ---- what is needed of the few rows

@@ -45,7 +45,8 @@ passed_spends F m serial random v = grind (arith, (spent_after_nonces F m serial
 signed_spends : (F : History) (m : ℕ) (serial : ℕ) (random : List ℕ) (s : Signed) (o : Option ℕ) → o ≡ Some serial →
     IsSpent serial (record_all m (signed_decision F m random s o).entries F)
 signed_spends F m serial random s None e = cc
-signed_spends F m serial random s (Some k) e = grind (arith, (passed_spends F m serial random (signed_verdict (tables_after m (nonce_entries serial random) F) (drop 16 random) s)))
+signed_spends F m serial random s (Some k) e =
+    grind (arith, (passed_spends F m serial random (signed_verdict (tables_after m (nonce_entries serial random) F) (drop 16 random) s)))
 
 -- a call that has passed spends its nonce
 call_spends : (F : History) (call : Call) (text : List ℕ) (serial : ℕ) → Passed F call text →

@@ -48,7 +48,8 @@ issued_follows F m r now enough = grind arith
 nonces_follow : (F : History) (m : ℕ) (r : List ℕ) (text : Option (List ℕ)) (serial : ℕ) → IsMoment F m → open_nonce (tables_at F m) text ≡ Some serial →
     16 ≤ length r →
     IsMoment (record_all m (nonce_entries serial r) F) m
-nonces_follow F m r text serial now is enough = grind (arith, (legal_grows F (spent serial) m now.each now.later now.in_time tt tt (open_serial (tables_at F m) text serial is)))
+nonces_follow F m r text serial now is enough =
+    grind (arith, (legal_grows F (spent serial) m now.each now.later now.in_time tt tt (open_serial (tables_at F m) text serial is)))
 
 -- the entries of a decision may follow, where there are random bytes enough
 abbrev pub DecisionFollows : History → ℕ → List ℕ → Decision → Type 0
@@ -67,7 +68,9 @@ signed_follows : (F : History) (m : ℕ) (random : List ℕ) (s : Signed) (o : O
     open_nonce (tables_at F m) s.nonce ≡ o →
     DecisionFollows F m random (signed_decision F m random s o)
 signed_follows F m random s None now formed is enough = issued_follows F m random now (omega arith)
-signed_follows F m random s (Some serial) now formed is enough = grind (arith, passed_follows, signed_sound, (tables_ordered (record_all m (nonce_entries serial random) F) m))
+signed_follows F m random s (Some serial) now formed is enough = grind (
+  arith, passed_follows, signed_sound, (tables_ordered (record_all m (nonce_entries serial random) F) m)
+)
 
 -- what carries no nonce
 office_follows : (F : History) (m : ℕ) (random : List ℕ) (a : OfficeAsk) → IsMoment F m → IsFormedOfficeAsk a →

@@ -137,6 +137,7 @@ carries_thin T P m v c l after same h = record {
   kept = h.kept;
   challenges = λ n x. h.challenges n x && c n x;
   authorizations = grind (arith, thin_both);
-  ends = λ n all. subst (EachOf (λ o. o.expires ≤ n)) (sym (ap (λ (E : Tables). E.orders) after)) (each-map _ (with_orders l) (effects m (swept m P) (entries_of v)).orders (h.ends n all));
+  ends = λ n all. subst (EachOf (λ o. o.expires ≤ n)) (sym (ap (λ (E : Tables). E.orders) after))
+      (each-map _ (with_orders l) (effects m (swept m P) (entries_of v)).orders (h.ends n all));
   shows = λ index. ap (λ E. verdict_reply index E v) after ∙ same index ∙ h.shows index;
 }

@@ -176,7 +176,11 @@ document_left k S o h = grind (arith, rows_same)
 issues_left : (k : Kept) (S : Tables) → EachOf (λ o. is_processing o.status ≡ true → k.orders o.number ≡ true) S.orders → KeepsListed k S →
     map (order_work_document (restricted k S)) (filter (λ o. is_processing o.status) (restricted k S).orders)
     ≡ map (order_work_document S) (filter (λ o. is_processing o.status) S.orders)
-issues_left k S h listed = grind (arith, filter_part, (same_passing (order_work_document (restricted k S)) (order_work_document S) (λ o. is_processing o.status) S.orders (each _ _ S.orders (λ o p yes. document_left k S o (p.1 (p.0 yes))) (each_both _ _ S.orders h listed))))
+issues_left k S h listed = grind (
+  arith, filter_part,
+  (same_passing (order_work_document (restricted k S)) (order_work_document S) (λ o. is_processing o.status) S.orders
+    (each _ _ S.orders (λ o p yes. document_left k S o (p.1 (p.0 yes))) (each_both _ _ S.orders h listed)))
+)
 
 issuer_settles : (T : Tables) (m : ℕ) → IsOrdered T → SettlesAs m office.OrderWork T (restricted (issuer_kept T) T)
 issuer_settles T m h =

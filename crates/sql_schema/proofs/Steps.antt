@@ -14,7 +14,11 @@ defines_next step first old new before on none = grind (arith, nat_tests)
 pub defines_more : (first old new : State) (step count : ℕ) → step < 16 → Survives old new (λ _. ⊥) → Advances first old (Defines step)
     → Performs (definition_at step) [] old new (Ok count)
     → Advances first new (Defines (step + 1))
-defines_more first old new step count low on before ran = grind (arith, nat_tests, MovesOn, performs_advances, makes, each_makes, advances_then, defines_next, (makes (schema_at step) (schema_at (step + 1)) (definition_at step) (each_makes step low) old new count), (each_makes step low), (defines_next step first.now old.now new.now))
+defines_more first old new step count low on before ran = grind (
+  arith, nat_tests, MovesOn, performs_advances, makes, each_makes, advances_then, defines_next,
+  (makes (schema_at step) (schema_at (step + 1)) (definition_at step) (each_makes step low) old new count), (each_makes step low),
+  (defines_next step first.now old.now new.now)
+)
 
 -- the table that format 1 lacks, made where there is format 1
 pub adds_key_table : (old new : State) (count : ℕ) → Performs (definition_at 15) [] old new (Ok count) → Advances old new AddsKeyTable

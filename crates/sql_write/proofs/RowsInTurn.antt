@@ -162,7 +162,9 @@ from_more last cs i d part low =
 pub from_begins : (last : Counters) (cs : List Change) (i : ℕ) (d : Change) (part : Tables) → i < length cs
     → (statements_from last part (take i cs) ++ statements_of (applied (take i cs) part) last (get_or cs i d))
     ++ statements_from last (applied (take (i + 1) cs) part) (drop (i + 1) cs) ≡ statements_from last part cs
-from_begins last cs i d part low = grind (arith, take-append-drop, (from_more last cs i d part low), (from_append last (take (i + 1) cs) (drop (i + 1) cs) part), (take-append-drop (i + 1) cs))
+from_begins last cs i d part low = grind (
+  arith, take-append-drop, (from_more last cs i d part low), (from_append last (take (i + 1) cs) (drop (i + 1) cs) part), (take-append-drop (i + 1) cs)
+)
 
 -- by the last numbers that are known they are those of a save
 pub of_save : (part : Tables) (changes : List Change) → statements_from part.meta.counters part changes ≡ save_statements part changes

@@ -47,7 +47,8 @@ children-above {P} {T} number children k n (p ∷ ps) lt h =
 pub nested_up : {P T : Type 0} (number : P → ℕ) (children : P → List T) (with_children : P → List T → P) → IsNesting number children with_children →
     (n : ℕ) (ps : List P) (rs : List (Owned T)) → Ascends number n ps → Ascends number n (nested number with_children ps rs)
 nested_up number children with_children laws n [] rs up = tt
-nested_up number children with_children laws n (p ∷ ps) rs up = grind (arith, (nested_up number children with_children laws (number p + 1) ps (behind (number p) rs) up.1))
+nested_up number children with_children laws n (p ∷ ps) rs up =
+    grind (arith, (nested_up number children with_children laws (number p + 1) ps (behind (number p) rs) up.1))
 
 -- rows by number are what their parents and their children make
 pub nested-flat : {P T : Type 0} (number : P → ℕ) (children : P → List T) (with_children : P → List T → P) → IsNesting number children with_children →

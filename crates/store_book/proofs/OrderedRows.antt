@@ -51,7 +51,10 @@ above_owners : {P T : Type 0} (number : P → ℕ) (children : P → List T) (ch
     → Ascends number n ps →
     AllByRecursion (λ y. by_owner child_number (record { owner = k; row = t }) y ≡ Ordering.Less) (child_rows number children ps)
 above_owners number children child_number k t n [] lt h = tt
-above_owners number children child_number k t n (p ∷ ps) lt h = grind (arith, each-append, (above_owners number children child_number k t (number p + 1) ps (omega arith) h.1), (above_owner child_number k t (number p) (children p) (omega arith)))
+above_owners number children child_number k t n (p ∷ ps) lt h = grind (
+  arith, each-append, (above_owners number children child_number k t (number p + 1) ps (omega arith) h.1),
+  (above_owner child_number k t (number p) (children p) (omega arith))
+)
 
 all_above_owners : {P T : Type 0} (number : P → ℕ) (children : P → List T) (child_number : T → ℕ) (k : ℕ) (ts : List T) (n : ℕ)
     (ps : List P) → k < n → Ascends number n ps →
@@ -76,7 +79,10 @@ pub strictly-children : {P T : Type 0} (number : P → ℕ) (children : P → Li
     EachOf (λ p. Ascends child_number 1 (children p)) ps → IsStrictlySortedBy (by_owner child_number) (child_rows number children ps)
 unfolding IsStrictlySortedBy
 strictly-children number children child_number n [] h own = tt
-strictly-children number children child_number n (p ∷ ps) h own = grind (arith, strictly-append, strictly-siblings, (strictly-children number children child_number (number p + 1) ps h.1 own.1), (all_above_owners number children child_number (number p) (children p) (number p + 1) ps (omega arith) h.1))
+strictly-children number children child_number n (p ∷ ps) h own = grind (
+  arith, strictly-append, strictly-siblings, (strictly-children number children child_number (number p + 1) ps h.1 own.1),
+  (all_above_owners number children child_number (number p) (children p) (number p + 1) ps (omega arith) h.1)
+)
 
 -- rows by number with the same elements are equal
 pub same_ascending : {X : Type 0} (number : X → ℕ) (m n : ℕ) (xs ys : List X) → Ascends number m xs → Ascends number n ys → IsPermutation xs ys → xs ≡ ys

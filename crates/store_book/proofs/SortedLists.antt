@@ -34,7 +34,9 @@ strictly-from_distinct c o (x ∷ xs) up apart =
 -- a sorted order of what can rise strictly does so
 pub strictly-from_other : {X : Type 0} (c : X → X → Ordering) → IsTotalOrder c → (xs ys : List X) → IsSorted c xs → IsStrictlySortedBy c ys →
     IsPermutation xs ys → IsStrictlySortedBy c xs
-strictly-from_other c o xs ys up rises permuted = search (rules, strictly-from_distinct, IsDistinct-IsPermutation, equal_flips, IsPermutation-sym, IsDistinct-from_sorted)
+strictly-from_other c o xs ys up rises permuted = search (
+  rules, strictly-from_distinct, IsDistinct-IsPermutation, equal_flips, IsPermutation-sym, IsDistinct-from_sorted
+)
 
 -- what holds of an element or is equal to a lower one holds
 not_first : {X : Type 0} (c : X → X → Ordering) → IsTotalOrder c → (P : X → Type 0) (x : X) (xs : List X) → EachOf (λ y. c x y ≡ Ordering.Less) xs →
@@ -70,7 +72,9 @@ same_from_elements {X} c o (x ∷ xs) (y ∷ ys) up down to from =
 -- a sorted list is the one order of its elements that rises strictly
 pub same_sorted : {X : Type 0} (c : X → X → Ordering) → IsTotalOrder c → (xs ys : List X) → IsSorted c xs → IsStrictlySortedBy c ys
     → IsPermutation xs ys → xs ≡ ys
-same_sorted c o xs ys up rises permuted = search (rules, same_from_elements, strictly-from_other, recursion_from_All, All-permutation, All-from_recursion, IsPermutation-sym)
+same_sorted c o xs ys up rises permuted = search (
+  rules, same_from_elements, strictly-from_other, recursion_from_All, All-permutation, All-from_recursion, IsPermutation-sym
+)
 
 -- what rises strictly is the one order of its elements that does
 pub same_strictly : {X : Type 0} (c : X → X → Ordering) → IsTotalOrder c → (xs ys : List X) → IsStrictlySortedBy c xs

@@ -7,7 +7,8 @@ use Rattle.identifiers.specs.Parsed.{ask_of}
 use Rattle.desk_core.proofs.decisions.decide.Goals as goal
 
 pub decide_at-requires : goal.decide_at-requires
-decide_at-requires c = c.moment_of-moment.ensures.in_time (subst (λ (k : Call). k.at ≤ last_moment) (sym c.call-whole.ensures.call) c.call-whole.ensures.in_time)
+decide_at-requires c =
+    c.moment_of-moment.ensures.in_time (subst (λ (k : Call). k.at ≤ last_moment) (sym c.call-whole.ensures.call) c.call-whole.ensures.in_time)
 
 -- the moment of the decision
 acts : (c : After-decide_at) → c.moment_of-moment.result ≡ max c.args.call.now.at c.args.book.now.meta.counters.clock

@@ -10,7 +10,11 @@ found xs n (Ok i) holds is = among_at n xs i holds
 found xs n (Err i) holds is = absurd (cc is)
 
 pub returns-clause-among : goal.returns-clause-among
-returns-clause-among c has = grind (arith, (found c.deref.result.now c.args.number c.binary_search.result c.binary_search.ensures.ok (sym c.is_ok.ensures.value ∙ has)))
+returns-clause-among c has =
+    grind (arith, (found c.deref.result.now c.args.number c.binary_search.result c.binary_search.ensures.ok (sym c.is_ok.ensures.value ∙ has)))
 
 pub returns-clause-found : goal.returns-clause-found
-returns-clause-found c up among = grind (arith, (search_finds c.deref.result.now c.args.number c.binary_search.result c.binary_search.ensures.position (subst Rise (sym (c.deref.ensures.value ∙ c.self.view_is)) up) (subst (λ l. IsAmong l c.args.number) (sym (c.deref.ensures.value ∙ c.self.view_is)) among)))
+returns-clause-found c up among =
+    grind (arith, (search_finds c.deref.result.now c.args.number c.binary_search.result c.binary_search.ensures.position
+      (subst Rise (sym (c.deref.ensures.value ∙ c.self.view_is)) up)
+        (subst (λ l. IsAmong l c.args.number) (sym (c.deref.ensures.value ∙ c.self.view_is)) among)))
