@@ -229,7 +229,7 @@ module _ {S C : Type 0} (v : Sight S C) where
         → AreCalls v (Any v) old new
     until_calls most why old new was is it =
         calls_on old it.mid new (many_calls it.count old it.mid was it.between it.many)
-            (one_acts v causes hook takes why it.kept it.mid new it.between is it.last)
+        (one_acts v causes hook takes why it.kept it.mid new it.between is it.last)
 
     fewer_calls : (most : ℕ) (old new : DeskState S) (was is : Watch O) → ServesFewer v causes hook takes most old was new is → AreCalls v (Any v) old new
     fewer_calls most old new was is it = many_calls it.count old new was it.between it.many

@@ -16,8 +16,8 @@ fault_line form.Text kind number stored derived =
     kind ++ (codes " " ++ (decimal number ++ (codes ": stored " ++ (stored ++ (codes ", derived " ++ (derived ++ codes "\n"))))))
 fault_line form.Json kind number stored derived =
     codes "{\"kind\":\"" ++
-        (kind ++ (codes "\",\"number\":" ++
-          (decimal number ++ (codes ",\"stored\":\"" ++ (stored ++ (codes "\",\"derived\":\"" ++ (derived ++ codes "\"}\n")))))))
+    (kind ++ (codes "\",\"number\":" ++
+    (decimal number ++ (codes ",\"stored\":\"" ++ (stored ++ (codes "\",\"derived\":\"" ++ (derived ++ codes "\"}\n")))))))
 
 -- that of a fault, with the statuses as RFC 8555 spells them
 abbrev pub line_of : Form → StatusFault → List ℕ

@@ -91,7 +91,7 @@ looks_are_read report.Page it fits wants = wants
 looks_are_read (report.Orders l) it fits wants =
     orders_read l.json l.account (given l.status) (given l.name)
     ∙ (ap (λ a. orders_by a (status_read (given l.status)) (name_read (given l.name)) (asked_form l.json))
-        (number_is l.account fits ∙ ap Some (sym wants.1.account))
+    (number_is l.account fits ∙ ap Some (sym wants.1.account))
     ∙ (ap (λ s. orders_by (Some wants.0.account) s (name_read (given l.name)) (asked_form l.json)) (status_is l.status wants.0.status wants.1.status)
     ∙ (ap (λ n. orders_by (Some wants.0.account) (Some wants.0.status) n (asked_form l.json)) (name_is l.name wants.0.name wants.1.name)
     ∙ sym (ap Some wants.2))))

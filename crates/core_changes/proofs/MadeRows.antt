@@ -155,8 +155,17 @@ pub status_is_made : (T : Tables) (m account : ℕ) (wanted : List Wanted) (o : 
     o.authorizations ≡ listed_by wanted (T.meta.counters.authorizations + 1) → o.expires ≡ m + T.meta.policy.order_life →
     derived_order m (authorizations_after T (ordered account wanted) m) (fresh_order o) ≡ made_status wanted
 status_is_made T m account wanted o below reusable lists ends = grind (
-  arith, nat_tests, made_wait, reusable_after, le-ltb, numbers_listed, none_over, status_made, (made_wait T m account wanted below),
-  (reusable_after T m account wanted wanted reusable), (numbers_listed 1 o.authorizations ∙ lists)
+  arith,
+  nat_tests,
+  made_wait,
+  reusable_after,
+  le-ltb,
+  numbers_listed,
+  none_over,
+  status_made,
+  (made_wait T m account wanted below),
+  (reusable_after T m account wanted wanted reusable),
+  (numbers_listed 1 o.authorizations ∙ lists),
 )
 
 -- what an order may want is valid

@@ -74,7 +74,12 @@ pub status-touched : (e : Entry) (m n : ℕ) (accounts : List AccountRow) (rows 
     touches_authorization e row ≡ true → found ≡ authorization_numbered n (authorizations_moved e m accounts rows) →
     option_map (λ r. r.status) found ≡ option_map (λ r. r.status) (authorization_numbered n (rows_after e m accounts rows))
 status-touched e m n accounts rows row found is moves looked = grind (
-  arith, nat_tests, find-touched-at, touches_swept, after_numbered, (swept_numbered m n rows ∙ ap (option_map (swept_authorization m)) is)
+  arith,
+  nat_tests,
+  find-touched-at,
+  touches_swept,
+  after_numbered,
+  (swept_numbered m n rows ∙ ap (option_map (swept_authorization m)) is),
 )
 
 -- what an order lists, by one place more, which is not touched

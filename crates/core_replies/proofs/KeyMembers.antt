@@ -19,7 +19,11 @@ unmarked c is = grind (arith, nat_tests)
 parts-of : (first rest : List ℕ) → list_all is_base64url_byte first ≡ true → parts (first ++ 34 ∷ rest) ≡ first ∷ parts rest
 parts-of [] rest each = refl
 parts-of (c ∷ cs) rest each = grind (
-  arith, nat_tests, unmarked, and_parts, (parts-of cs rest (and_parts (is_base64url_byte c) (list_all is_base64url_byte cs) each).1)
+  arith,
+  nat_tests,
+  unmarked,
+  and_parts,
+  (parts-of cs rest (and_parts (is_base64url_byte c) (list_all is_base64url_byte cs) each).1),
 )
 
 curve_bytes : (crv : List ℕ) → IsCurve crv → list_all is_base64url_byte crv ≡ true

@@ -150,6 +150,17 @@ pub ordered_names : (m : ℕ) (B : Tables) (C : Counters) (account : ℕ) (wante
     map (λ a. a.name) (listed_rows (effect m (swept m B) (ordered account wanted)) (next_order B.meta.policy C account wanted)) ≡ map wanted_name wanted
 ordered_names m B C account wanted at is may = search (rules, names_after)
 
+-- its moment has a text
+pub ordered_text : (m : ℕ) (B : Tables) (C : Counters) (account : ℕ) (wanted : List Wanted) → IsAt m B C → IsOrdered B →
+    AreReusable (swept m B).authorizations wanted →
+    HasTexts (effect m (swept m B) (ordered account wanted)) → (next_order B.meta.policy C account wanted).expires ≤ last_end
+ordered_text m B C account wanted at is reusable texts =
+    grind (
+      arith,
+      (ordered_found m B C account wanted at is reusable),
+      (order_ends (effect m (swept m B) (ordered account wanted)) (B.meta.counters.orders + 1) texts),
+    )
+
 -- the rows at the moment stand by number
 pub swept_ascends : (m : ℕ) (B : Tables) → IsOrdered B → Ascends (λ a. a.number) 1 (swept m B).authorizations
 swept_ascends m B is = search (rules, ascends_map)
@@ -159,11 +170,3 @@ pub may_be_wanted : (m t : ℕ) (B : Tables) (account : ℕ) (wanted : List Want
     (Ascends (λ a. a.number) 1 (swept t B).authorizations → IsTrue (list_all (may_want_on (swept t B) account) wanted)) →
     list_all (may_want_on (swept m B) account) wanted ≡ true
 may_be_wanted m t B account wanted clock is may = search (rules, swept_ascends)
-
--- its moment has a text
-pub ordered_text : (m : ℕ) (B : Tables) (C : Counters) (account : ℕ) (wanted : List Wanted) → IsAt m B C → IsOrdered B →
-    AreReusable (swept m B).authorizations wanted →
-    HasTexts (effect m (swept m B) (ordered account wanted)) → (next_order B.meta.policy C account wanted).expires ≤ last_end
-ordered_text m B C account wanted at is reusable texts =
-    grind (arith, (ordered_found m B C account wanted at is reusable),
-      (order_ends (effect m (swept m B) (ordered account wanted)) (B.meta.counters.orders + 1) texts))

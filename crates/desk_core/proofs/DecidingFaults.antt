@@ -69,9 +69,19 @@ passed_faults F call s serial core.Full legal at is h = is_full F call _ at is (
           nonces_grow (record_all (moment_of call.at F) (nonce_entries serial call.random) F) (moment_of call.at F) (judged F call s),
         ))
 passed_faults F call s serial core.ShortRandom legal at is h = grind (
-  arith, is_short, numbers_left, judged, fits_nonces, counters, signed_spaced, judged_left, (judged F call s),
-  (fits_nonces F (moment_of call.at F) serial (take 16 call.random) (counters F legal) h.0), (counters F legal),
-  (signed_spaced (swept (moment_of call.at F) (picture F)) (drop 16 call.random) s), (judged_left F call serial (judged F call s) h.1)
+  arith,
+  is_short,
+  numbers_left,
+  judged,
+  fits_nonces,
+  counters,
+  signed_spaced,
+  judged_left,
+  (judged F call s),
+  (fits_nonces F (moment_of call.at F) serial (take 16 call.random) (counters F legal) h.0),
+  (counters F legal),
+  (signed_spaced (swept (moment_of call.at F) (picture F)) (drop 16 call.random) s),
+  (judged_left F call serial (judged F call s) h.1),
 )
 
 -- a signed request

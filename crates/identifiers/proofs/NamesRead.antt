@@ -31,7 +31,12 @@ pub named-next : (ids : List Identifier) (index : ℕ) (id : Identifier) (name :
     → ((before : List Name) → names ≡ kept before → names_then ≡ kept (before ++ name ∷ [])) →
     AreFound ids index faulty names → AreFound ids (index + 1) faulty_then names_then
 named-next ids index id name faulty faulty_then names names_then more is sound stands same keeps known = grind (
-  arith, nat_tests, subproblems-next, names_in-last, (subproblems-next ids index id None more is sound), (names_in-last ids index id name more is stands)
+  arith,
+  nat_tests,
+  subproblems-next,
+  names_in-last,
+  (subproblems-next ids index id None more is sound),
+  (names_in-last ids index id name more is stands),
 )
 
 not_empty : {X : Type 0} {A : Type 0} (xs : List X) (x : X) → xs ++ x ∷ [] ≡ [] → A

@@ -53,7 +53,11 @@ found_member : (name : List ℕ) (ms : json.Members) (found : Members)
     → get_member name (plain_members ms found) ≡ or_before (json_find.get_member name ms) (get_member name found)
 found_member name json.no_members found = refl
 found_member name (json.member k j ms) found = found_member name ms (put k (plain_value j) found) ∙ grind (
-  arith, nat_tests, bytes_eq-Decides, get_member-put, get_member-put_other
+  arith,
+  nat_tests,
+  bytes_eq-Decides,
+  get_member-put,
+  get_member-put_other,
 )
 
 -- so it is found in the value as in what was read

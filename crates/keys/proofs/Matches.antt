@@ -39,7 +39,14 @@ blanks_turned (b ∷ bs) all =
 -- a body without the blanks at its end is the text that it matches
 pub without_blanks-matched : (body expected : List ℕ) → IsBodyMatch body expected → without_blanks body ≡ expected
 without_blanks-matched body expected m = search (
-  rules, reverse-append, stops, reverse-reverse, prefix_blanks, blanks_turned, length-prefix_len, drop-append_seam
+  rules,
+  reverse-append,
+  stops,
+  reverse-reverse,
+  prefix_blanks,
+  blanks_turned,
+  length-prefix_len,
+  drop-append_seam,
 )
 
 -- a list that has an equal one

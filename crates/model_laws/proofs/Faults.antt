@@ -52,14 +52,14 @@ all_fine F t (a ∷ xs) = each-append _ (map (challenge_row F a.account) a.chall
 pub no_faults : (F : History) (t : ℕ) → EachFollows F → status_faults (tables_at F t) ≡ []
 no_faults F t h =
     let accounts_fine : flat_map account_faults (map (account_row F) (accounts F)) ≡ [] =
-        none_of (account_row F) account_faults (accounts F) (each_all _ (accounts F) (λ a. no_fault _ _ _ refl)) in
+    none_of (account_row F) account_faults (accounts F) (each_all _ (accounts F) (λ a. no_fault _ _ _ refl)) in
     let orders_fine : flat_map (order_faults t (map (authorization_row F t) (authorizations F))) (map (order_row F t) (orders F)) ≡ [] =
-        none_of (order_row F t) (order_faults t (map (authorization_row F t) (authorizations F))) (orders F)
-          (each_all _ (orders F) (λ o. no_fault _ _ _ (ap (λ (r : OrderRow). order_code r.status) (order_stated F t t o)))) in
+    none_of (order_row F t) (order_faults t (map (authorization_row F t) (authorizations F))) (orders F)
+    (each_all _ (orders F) (λ o. no_fault _ _ _ (ap (λ (r : OrderRow). order_code r.status) (order_stated F t t o)))) in
     let authorizations_fine : flat_map (authorization_faults t) (map (authorization_row F t) (authorizations F)) ≡ [] =
-        none_of (authorization_row F t) (authorization_faults t) (authorizations F)
-          (each_all _ (authorizations F) (λ a. no_fault _ _ _ (ap (λ (r : AuthorizationRow). authz_code r.status) (authorization_stated F h t t a)))) in
+    none_of (authorization_row F t) (authorization_faults t) (authorizations F)
+    (each_all _ (authorizations F) (λ a. no_fault _ _ _ (ap (λ (r : AuthorizationRow). authz_code r.status) (authorization_stated F h t t a)))) in
     let challenges_fine : flat_map challenge_faults
-        (sorted_challenges (flat_map (λ (a : AuthorizationRow). a.challenges) (map (authorization_row F t) (authorizations F)))) ≡ [] =
-          no_faults_of challenge_faults _ (each_sorted _ _ (all_fine F t (authorizations F))) in
+    (sorted_challenges (flat_map (λ (a : AuthorizationRow). a.challenges) (map (authorization_row F t) (authorizations F)))) ≡ [] =
+    no_faults_of challenge_faults _ (each_sorted _ _ (all_fine F t (authorizations F))) in
     search rules

@@ -71,8 +71,10 @@ moved_number e m accounts row = one_kept (λ (a : AuthorizationRow). a.number) (
 noted_same : (k : Kept) (T : Tables) (e : Entry) (m : ℕ) (a : AuthorizationRow) → (touches_authorization e a ≡ true → k.accounts a.account ≡ true) →
     noted_authorization e m (restricted k T).accounts a ≡ noted_authorization e m T.accounts a
 noted_same k T e m a h = grind (
-  arith, (find_kept (λ (r : AccountRow). r.number) k.accounts a.account T.accounts), (authorization_untouched e m (restricted k T).accounts a),
-  (authorization_untouched e m T.accounts a)
+  arith,
+  (find_kept (λ (r : AccountRow). r.number) k.accounts a.account T.accounts),
+  (authorization_untouched e m (restricted k T).accounts a),
+  (authorization_untouched e m T.accounts a),
 )
 
 -- and so it is moved
@@ -159,7 +161,7 @@ changes_local k T m e closed covers fresh_kept =
     (each _ _ T.authorizations (λ a f h. f (and_parts (touches_authorization e a) _ h).0) covers.authorizations) in
     let after : List AuthorizationRow = authorizations_after (restricted k T) e m in
     let orders : moved_rows (touches_order e (restricted k T).authorizations) order_differs (λ r. restated_order m after (noted_order e m r))
-        (restricted k T).orders
+    (restricted k T).orders
     ≡ moved_rows (touches_order e T.authorizations) order_differs (λ r. restated_order m (authorizations_after T e m) (noted_order e m r)) T.orders =
     picked _ _ _ _ _ T.orders
     (each _ _ T.orders (λ o all yes.

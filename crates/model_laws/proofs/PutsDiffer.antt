@@ -156,8 +156,11 @@ pub each_change : (P : Change → Type 0) (T : Tables) (m : ℕ) (e : Entry) →
     EachOf (λ x. P (PutNonce x)) (nonces_put T e m) → EachOf (λ x. P (PutAccount x)) (accounts_put T e m) →
     EachOf (λ x. P (PutAuthorization x)) (authorizations_put T e m) → EachOf (λ x. P (PutOrder x)) (orders_put T e m) → EachOf P (changes m T e)
 each_change P T m e removed nonces accounts authorizations orders = grind (
-  arith, each-append, (each-map P PutAccount (accounts_put T e m) accounts), (each-map P PutAuthorization (authorizations_put T e m) authorizations),
-  (each-map P PutOrder (orders_put T e m) orders)
+  arith,
+  each-append,
+  (each-map P PutAccount (accounts_put T e m) accounts),
+  (each-map P PutAuthorization (authorizations_put T e m) authorizations),
+  (each-map P PutOrder (orders_put T e m) orders),
 )
 
 -- the changes of an entry are moves
@@ -179,8 +182,11 @@ pub each_sweep : (P : Change → Type 0) (T : Tables) (m : ℕ) → EachOf (λ n
     EachOf (λ x. P (PutAuthorization x)) (authorizations_expired m T) → EachOf (λ x. P (PutOrder x)) (orders_fallen m T) →
     EachOf P (sweep_changes m T)
 each_sweep P T m removed authorizations orders = grind (
-  arith, each-append, (each-map P RemoveNonce (nonces_gone m T) removed), (each-map P PutAuthorization (authorizations_expired m T) authorizations),
-  (each-map P PutOrder (orders_fallen m T) orders)
+  arith,
+  each-append,
+  (each-map P RemoveNonce (nonces_gone m T) removed),
+  (each-map P PutAuthorization (authorizations_expired m T) authorizations),
+  (each-map P PutOrder (orders_fallen m T) orders),
 )
 
 -- the changes of a sweep are moves

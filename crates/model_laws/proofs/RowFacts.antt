@@ -159,8 +159,15 @@ authorization_untouched e m accounts row h = grind (arith, other_challenges)
 pub authorization_kept : (F : History) (e : Entry) (m : ℕ) (a : Authorization) → EachFollows (record { date = m; entry = e } ∷ F) → clock F ≤ m →
     touches_authorization e (authorization_row F m a) ≡ false → authorization_row (record { date = m; entry = e } ∷ F) m a ≡ authorization_row F m a
 authorization_kept F e m a each le h = grind (
-  arith, nat_tests, authorization_noted, each, authorization_untouched, authorization_stated, (authorization_noted F e m m a each le),
-  (authorization_untouched e m (map (account_row F) (accounts F)) (authorization_row F m a) h), (authorization_stated F each.1 m m a)
+  arith,
+  nat_tests,
+  authorization_noted,
+  each,
+  authorization_untouched,
+  authorization_stated,
+  (authorization_noted F e m m a each le),
+  (authorization_untouched e m (map (account_row F) (accounts F)) (authorization_row F m a) h),
+  (authorization_stated F each.1 m m a),
 )
 
 -- the row of an authorization after an entry

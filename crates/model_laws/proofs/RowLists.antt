@@ -77,8 +77,11 @@ pub puts_moved : {X : Type 0} (number : X → ℕ) (test : X → Bool) (move : X
     puts number (map move (filter test rows)) rows ≡ map (λ r. cond (test r) (move r) r) rows
 puts_moved number test move same n [] h = refl
 puts_moved number test move same n (r ∷ rs) h = grind (
-  arith, ascends_above, puts_past, (puts_moved number test move same (number r + 1) rs h.1),
-  (ascends_map number number move same (number r + 1) (filter test rs) (ascends_filter number test (number r + 1) rs h.1))
+  arith,
+  ascends_above,
+  puts_past,
+  (puts_moved number test move same (number r + 1) rs h.1),
+  (ascends_map number number move same (number r + 1) (filter test rs) (ascends_filter number test (number r + 1) rs h.1)),
 )
 
 -- putting the touched rows that differ, moved, moves all that are touched

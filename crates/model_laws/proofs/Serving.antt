@@ -17,5 +17,8 @@ pub all_may_be_wanted : (T : Tables) (account : ℕ) (names : List Name) (random
     list_all (may_want_on T account) (wanted T account names random) ≡ true
 all_may_be_wanted T account [] random in_order = refl
 all_may_be_wanted T account (name ∷ names) random in_order = grind (
-  arith, serving_found, found_passes, (all_may_be_wanted T account names (left_by (serving_on T account name) name random) in_order)
+  arith,
+  serving_found,
+  found_passes,
+  (all_may_be_wanted T account names (left_by (serving_on T account name) name random) in_order),
 )

@@ -64,21 +64,42 @@ rows_on f g fresh move xs more h k = map-append g xs more ∙ (λ i. map-moved f
 pub step : (F : History) (e : Entry) (m : ℕ) → EachFollows (record { date = m; entry = e } ∷ F) →
     tables_at (record { date = m; entry = e } ∷ F) m ≡ effect m (tables_at F m) e
 step F e m h = grind (
-  arith, nat_tests, AreFound, listed_found, made_now, rows_on, each_all, authorization_moves, authorizations_fresh, ordered_now, each, order_moves,
-  orders_fresh, account_moves, accounts_fresh, length-append, count-append, nonces_on, (listed_found F h.1),
+  arith,
+  nat_tests,
+  AreFound,
+  listed_found,
+  made_now,
+  rows_on,
+  each_all,
+  authorization_moves,
+  authorizations_fresh,
+  ordered_now,
+  each,
+  order_moves,
+  orders_fresh,
+  account_moves,
+  accounts_fresh,
+  length-append,
+  count-append,
+  nonces_on,
+  (listed_found F h.1),
   (rows_on (authorization_row F m) (authorization_row ((record { date = m; entry = e }) ∷ F) m) (λ a. restated_authorization m (fresh_authorization a))
-    (moved_authorization e m (map (account_row F) (accounts F))) (authorizations F) (made_now (record { date = m; entry = e }) F)
+      (moved_authorization e m (map (account_row F) (accounts F))) (authorizations F) (made_now (record { date = m; entry = e }) F)
       (each_all _ (authorizations F) (λ a. authorization_moves F e m a h h.0.in_order)) (authorizations_fresh F e m h)),
   (rows_on (order_row F m) (order_row ((record { date = m; entry = e }) ∷ F) m)
-    (λ o. restated_order m (map (authorization_row ((record { date = m; entry = e }) ∷ F) m) (authorizations ((record { date = m; entry = e }) ∷ F)))
+      (λ o. restated_order m (map (authorization_row ((record { date = m; entry = e }) ∷ F) m) (authorizations ((record { date = m; entry = e }) ∷ F)))
       (fresh_order o)) (moved_order e m (map (authorization_row F m) (authorizations F))
-        (map (authorization_row ((record { date = m; entry = e }) ∷ F) m) (authorizations ((record { date = m; entry = e }) ∷ F)))) (orders F)
-          (ordered_now (record { date = m; entry = e }) F) (each _ _ (orders F) (λ o. order_moves F e m o h h.0.in_order) (listed_found F h.1))
-            (orders_fresh F e m h)),
+      (map (authorization_row ((record { date = m; entry = e }) ∷ F) m) (authorizations ((record { date = m; entry = e }) ∷ F)))) (orders F)
+      (ordered_now (record { date = m; entry = e }) F) (each _ _ (orders F) (λ o. order_moves F e m o h h.0.in_order) (listed_found F h.1))
+      (orders_fresh F e m h)),
   (rows_on (account_row F) (account_row ((record { date = m; entry = e }) ∷ F)) fresh_account (moved_account e m) (accounts F)
-    (opened_by e m (length (accounts F) + 1)) (each_all _ (accounts F) (account_moves F e m)) (accounts_fresh F e m h)),
-  (ordered_now (record { date = m; entry = e }) F), (made_now (record { date = m; entry = e }) F), (account_moves F e m), (accounts_fresh F e m h),
-  (authorizations_fresh F e m h), (orders_fresh F e m h)
+      (opened_by e m (length (accounts F) + 1)) (each_all _ (accounts F) (account_moves F e m)) (accounts_fresh F e m h)),
+  (ordered_now (record { date = m; entry = e }) F),
+  (made_now (record { date = m; entry = e }) F),
+  (account_moves F e m),
+  (accounts_fresh F e m h),
+  (authorizations_fresh F e m h),
+  (orders_fresh F e m h),
 )
 
 -- ---- the sweep
@@ -110,6 +131,12 @@ clock_after m (e ∷ es) F h = clock_after m es (record { date = m; entry = e } 
 pub picture_more : (F : History) (e : Entry) (es : List Entry) (m : ℕ) → clock F ≤ m → EachFollows (record_all m (e ∷ es) F) →
     picture (record_all m (e ∷ es) F) ≡ effects m (swept m (picture F)) (e ∷ es)
 picture_more F e es m le h = grind (
-  arith, nat_tests, clock_after, steps, sweep, (steps F (e ∷ es) m h), (clock_after m es (record { date = m; entry = e } ∷ F) (omega arith)),
-  (sweep F (clock F) m le)
+  arith,
+  nat_tests,
+  clock_after,
+  steps,
+  sweep,
+  (steps F (e ∷ es) m h),
+  (clock_after m es (record { date = m; entry = e } ∷ F) (omega arith)),
+  (sweep F (clock F) m le),
 )

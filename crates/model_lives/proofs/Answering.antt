@@ -107,11 +107,18 @@ OwnersKept k S n = EachOf (λ r. has_row n r ≡ true → k.authorizations r.num
 answered_same : (k : Kept) (m n : ℕ) (S : Tables) → IsClosed k S → HoldersKept k S (answered n) → OwnersKept k S n → IsStated m S →
     changes m (restricted k S) (answered n) ≡ changes m S (answered n)
 answered_same k m n S closed holders owners h = grind (
-  arith, (bare_changes m (restricted k S) (answered n) (part_stands k m n S closed holders h)),
+  arith,
+  (bare_changes m (restricted k S) (answered n) (part_stands k m n S closed holders h)),
   (changes_local k (bare S) m (answered n)
-    (record { listed = tt; new_nonces = closed.new_nonces; new_accounts = closed.new_accounts; new_authorizations = closed.new_authorizations; new_orders =
-      closed.new_orders }) (record { accounts = each_all _ S.accounts (λ a t. cc); authorizations = owners; orders = tt; holders = holders }) tt),
-  (bare_changes m S (answered n) (orders_stand m n S h))
+      (record {
+        listed = tt;
+        new_nonces = closed.new_nonces;
+        new_accounts = closed.new_accounts;
+        new_authorizations = closed.new_authorizations;
+        new_orders =
+            closed.new_orders;
+      }) (record { accounts = each_all _ S.accounts (λ a t. cc); authorizations = owners; orders = tt; holders = holders }) tt),
+  (bare_changes m S (answered n) (orders_stand m n S h)),
 )
 
 -- also behind the nonces

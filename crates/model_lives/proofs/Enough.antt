@@ -48,7 +48,14 @@ verdict_covered k m S v h l = grind (arith, entry_covered)
 later_covered : (k : Kept) (m : ℕ) (S : Tables) (n : ℕ) (r : List ℕ) (e : Entry) → IsClosed k S → ReusedKept k e → Covers k S e →
     CoversAll k m S (spent n ∷ issued r ∷ e ∷ [])
 later_covered k m S n r e closed again covers = search (
-  rules, issued_closed, spent_closed, left_covers, issued_effect, spent_effect, nonces_covered, fresh_kept
+  rules,
+  issued_closed,
+  spent_closed,
+  left_covers,
+  issued_effect,
+  spent_effect,
+  nonces_covered,
+  fresh_kept,
 )
 
 nonce_covered : (k : Kept) (m : ℕ) (S : Tables) (n : ℕ) (r : List ℕ) (v : Verdict) → IsClosed k S → IsAnswered k m S v →
@@ -79,7 +86,12 @@ carried_by k T m v after same = record {
 
 carried_out : (k : Kept) (T : Tables) (m : ℕ) (v : Verdict) → IsClosed k T → IsAnswered k m (swept m T) v → CarriesOutAs m T (restricted k T) v
 carried_out k T m v closed h = grind (
-  arith, carried_by, swept_part, effects_part, reply_same, (verdict_covered k m (swept m T) v (swept_closed k T m closed) h)
+  arith,
+  carried_by,
+  swept_part,
+  effects_part,
+  reply_same,
+  (verdict_covered k m (swept m T) v (swept_closed k T m closed) h),
 )
 
 -- ---- each ask
@@ -89,12 +101,32 @@ issues_as k T m a ready = search (rules, swept_closed, recorded_local, keeps_fal
 
 pub settles_as : (k : Kept) (T : Tables) (m : ℕ) (a : OfficeAsk) → IsNoWork a → IsReady k T m (ask.Office a) → SettlesAs m a T (restricted k T)
 settles_as k T m a none ready = search (
-  rules, office_answered, swept_part, office_same, swept_names, carried_out, recorded_local, keeps_falling, verdict_covered, swept_closed
+  rules,
+  office_answered,
+  swept_part,
+  office_same,
+  swept_names,
+  carried_out,
+  recorded_local,
+  keeps_falling,
+  verdict_covered,
+  swept_closed,
 )
 
 pub passes_as : (k : Kept) (T : Tables) (m : ℕ) (s : Signed) → IsReady k T m (ask.Signed s) → PassesAs m s T (restricted k T)
 passes_as k T m s ready = search (
-  rules, swept_names, swept_part, nonce_same, issues_as, signed_same, carried_out, signed_answered, recorded_local, keeps_falling, nonce_covered, swept_closed
+  rules,
+  swept_names,
+  swept_part,
+  nonce_same,
+  issues_as,
+  signed_same,
+  carried_out,
+  signed_answered,
+  recorded_local,
+  keeps_falling,
+  nonce_covered,
+  swept_closed,
 )
 
 -- the directory needs no row

@@ -89,8 +89,13 @@ put_filter : {X : Type 0} (number : X → ℕ) (y : X) (p : X → Bool) (n : ℕ
     put number y (filter p xs) ≡ filter (λ x. (number y == number x) || p x) xs
 put_filter number y p n [] h e = cc
 put_filter number y p n (x ∷ xs) h e = grind (
-  arith, filter_same, each, put_first, above_filter, (put_filter number y p (number x + 1) xs h.1),
-  (ascends_above number (number x) (number x + 1) xs (omega arith) h.1)
+  arith,
+  filter_same,
+  each,
+  put_first,
+  above_filter,
+  (put_filter number y p (number x + 1) xs h.1),
+  (ascends_above number (number x) (number x + 1) xs (omega arith) h.1),
 )
 
 -- rows of these, put among some of them

@@ -157,12 +157,12 @@ keeps_named k T a h = record {
   owner = grind (arith, each);
   orders = each _ _ T.accounts
       (λ x member named. each _ _ T.orders
-        (λ o f asked same. f (and_from _ _ asked (member (λ y. is_named_account a y && (o.account == y.number)) (and_from _ _ named same)))) h.own)
-          (each_member T.accounts);
+      (λ o f asked same. f (and_from _ _ asked (member (λ y. is_named_account a y && (o.account == y.number)) (and_from _ _ named same)))) h.own)
+      (each_member T.accounts);
   asked = each _ _ T.accounts
       (λ x member named. each _ _ T.authorizations
-        (λ r f asks same. f (and_from _ _ asks (member (λ y. is_named_account a y && (r.account == y.number)) (and_from _ _ named same)))) h.asked)
-          (each_member T.accounts);
+      (λ r f asks same. f (and_from _ _ asks (member (λ y. is_named_account a y && (r.account == y.number)) (and_from _ _ named same)))) h.asked)
+      (each_member T.accounts);
 }
 
 -- what is touched has the rows that are named

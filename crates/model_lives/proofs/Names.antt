@@ -138,5 +138,15 @@ pub wanted_fits : (T : Tables) (account : ℕ) (ids : List Identifier) (r : List
     (has_length 1 most_names ws
     && (all_different (map wanted_name ws) && (list_all is_wanted ws && list_all (may_want_on T account) ws))) ≡ true)
 wanted_fits T account ids r in_order fits none enough = grind (
-  arith, length-names_in, length-wanted, length-kept, kept_some, names-wanted, different-kept, tokens_fit, each-kept, each_named, all_may_be_wanted
+  arith,
+  length-names_in,
+  length-wanted,
+  length-kept,
+  kept_some,
+  names-wanted,
+  different-kept,
+  tokens_fit,
+  each-kept,
+  each_named,
+  all_may_be_wanted,
 )

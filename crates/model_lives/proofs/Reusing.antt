@@ -35,7 +35,9 @@ wanted_same : (k : Kept) (S : Tables) (n : ℕ) (names some : List Name) (random
     EachOf (IsAmong names) some → wanted (restricted k S) n some random ≡ wanted S n some random
 wanted_same k S n names [] random asked among = refl
 wanted_same k S n names (name ∷ some) random asked among = grind (
-  arith, (wanted_same k S n names some (left_by (serving_on S n name) name random) asked among.1), (serving_same k S n names name asked among.0)
+  arith,
+  (wanted_same k S n names some (left_by (serving_on S n name) name random) asked among.1),
+  (serving_same k S n names name asked among.0),
 )
 
 -- and what it uses again is kept

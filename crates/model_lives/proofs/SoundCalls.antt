@@ -69,7 +69,10 @@ signed_follows : (F : History) (m : ℕ) (random : List ℕ) (s : Signed) (o : O
     DecisionFollows F m random (signed_decision F m random s o)
 signed_follows F m random s None now formed is enough = issued_follows F m random now (omega arith)
 signed_follows F m random s (Some serial) now formed is enough = grind (
-  arith, passed_follows, signed_sound, (tables_ordered (record_all m (nonce_entries serial random) F) m)
+  arith,
+  passed_follows,
+  signed_sound,
+  (tables_ordered (record_all m (nonce_entries serial random) F) m),
 )
 
 -- what carries no nonce

@@ -177,9 +177,10 @@ issues_left : (k : Kept) (S : Tables) → EachOf (λ o. is_processing o.status �
     map (order_work_document (restricted k S)) (filter (λ o. is_processing o.status) (restricted k S).orders)
     ≡ map (order_work_document S) (filter (λ o. is_processing o.status) S.orders)
 issues_left k S h listed = grind (
-  arith, filter_part,
+  arith,
+  filter_part,
   (same_passing (order_work_document (restricted k S)) (order_work_document S) (λ o. is_processing o.status) S.orders
-    (each _ _ S.orders (λ o p yes. document_left k S o (p.1 (p.0 yes))) (each_both _ _ S.orders h listed)))
+      (each _ _ S.orders (λ o p yes. document_left k S o (p.1 (p.0 yes))) (each_both _ _ S.orders h listed))),
 )
 
 issuer_settles : (T : Tables) (m : ℕ) → IsOrdered T → SettlesAs m office.OrderWork T (restricted (issuer_kept T) T)

@@ -35,5 +35,10 @@ same_moment t u y m d h mi s a b = cc (sym a.total, b.total)
 -- different moments have different texts
 pub IsMomentText-tells : (t u : ℕ) (text : List ℕ) → IsMomentText t text → IsMomentText u text → t ≡ u
 IsMomentText-tells t u text (y, m, d, h, mi, s, c, whole) (y₂, m₂, d₂, h₂, mi₂, s₂, c₂, whole₂) = grind (
-  arith, nat_tests, date_digits, four_digits_tell, two_digits_tell, same_moment
+  arith,
+  nat_tests,
+  date_digits,
+  four_digits_tell,
+  two_digits_tell,
+  same_moment,
 )

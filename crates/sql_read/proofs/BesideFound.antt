@@ -61,7 +61,7 @@ module _ {S : Type 0} (g : Ghosts S) (old : Held S) (T : Tables) (has : Holds (s
       let xs = companions cs T.authorizations n in
       let kept = are_kept authorization_facts (authorizations_kept _ T Second has) book in
       subst (FindsIn joined_facts g (chall.SELECT_BESIDE.now, number n) old) (sym beside_parts)
-          (finds_matched joined_facts g (beside_reading n) refl old has.schema
+      (finds_matched joined_facts g (beside_reading n) refl old has.schema
       (companions_match _ cs (all_keys T) (challenges_there g old T has book) T.authorizations has.authorizations n) (λ x. Int (pos x.0.row.number) ∷ []) xs (
         each _ _ xs (λ x p. ((p.0.0.0, p.0.1), p.0.0.1)) (each_companion cs T.authorizations _ _ n (keyed_stored g old T has book) kept.0),
         each _ _ xs (λ x p. p.0) (each_companion cs T.authorizations _ _ n (keyed_texts g old T has book) kept.1),

@@ -202,7 +202,7 @@ module _ {S : Type 0} (g : Ghosts S) (old : Held S) (T : Tables) (has : Holds (s
   pub order_end_find : (status : OrderStatus) → FindsEarliest g (ord.SELECT_EARLIEST.now, text (order_status_text status)) old (order_ends T status)
   order_end_find status =
       earliest_finds order_layout (λ o. o.expires) (is_equal order_status_at) 4 (λ o. order_code o.status == order_code status) (order_end_reading status)
-          (λ _. refl)
+      (λ _. refl)
       (λ o. text_test (order_status_text o.status) (order_status_text status) ∙ order_status_test o.status status) (λ _. refl)
       g old T.orders (orders_held _ T has)
 
@@ -211,6 +211,6 @@ module _ {S : Type 0} (g : Ghosts S) (old : Held S) (T : Tables) (has : Holds (s
       → FindsEarliest g (authz.SELECT_EARLIEST.now, text (authorization_status_text status)) old (authorization_ends T status)
   authorization_end_find status =
       earliest_finds authorization_layout (λ r. r.expires) (is_equal authorization_status_at) 6 (λ r. authz_code r.status == authz_code status)
-          (authorization_end_reading status) (λ _. refl)
+      (authorization_end_reading status) (λ _. refl)
       (λ r. text_test (authorization_status_text r.status) (authorization_status_text status) ∙ authorization_status_test r.status status) (λ _. refl)
       g old T.authorizations (authorizations_held _ T has)

@@ -53,7 +53,7 @@ module _ {S : Type 0} (g : Ghosts S) (old : Held S) (T : Tables) (has : Holds (s
       (sym (map-map without_listed (λ (x : Owned Listed × OrderRow). x.1) xs)
       ∙ ap (map without_listed) (seconds owner (λ (o : OrderRow). o.number) os (filter test ls)))
       (finds_matched listing_facts g (listing_reading n) refl old has.schema
-          (listing_match (overlay (state g old).now.trees []) os has.orders n ts has.listed.has stored)
+      (listing_match (overlay (state g old).now.trees []) os has.orders n ts has.listed.has stored)
       (λ x. Int (pos x.0.owner) ∷ Int (pos x.0.row.place) ∷ []) xs (
         each _ _ xs (λ x p. p.1) (each_pair owner (λ o. o.number) os (λ _. Unit {0}) _ (filter test ls) all kept.0),
         each _ _ xs (λ x p. p.1) (each_pair owner (λ o. o.number) os (λ _. Unit {0}) _ (filter test ls) all kept.1),

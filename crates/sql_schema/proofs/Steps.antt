@@ -15,9 +15,17 @@ pub defines_more : (first old new : State) (step count : ℕ) → step < 16 → 
     → Performs (definition_at step) [] old new (Ok count)
     → Advances first new (Defines (step + 1))
 defines_more first old new step count low on before ran = grind (
-  arith, nat_tests, MovesOn, performs_advances, makes, each_makes, advances_then, defines_next,
-  (makes (schema_at step) (schema_at (step + 1)) (definition_at step) (each_makes step low) old new count), (each_makes step low),
-  (defines_next step first.now old.now new.now)
+  arith,
+  nat_tests,
+  MovesOn,
+  performs_advances,
+  makes,
+  each_makes,
+  advances_then,
+  defines_next,
+  (makes (schema_at step) (schema_at (step + 1)) (definition_at step) (each_makes step low) old new count),
+  (each_makes step low),
+  (defines_next step first.now old.now new.now),
 )
 
 -- the table that format 1 lacks, made where there is format 1

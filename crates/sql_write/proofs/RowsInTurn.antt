@@ -163,7 +163,11 @@ pub from_begins : (last : Counters) (cs : List Change) (i : ℕ) (d : Change) (p
     → (statements_from last part (take i cs) ++ statements_of (applied (take i cs) part) last (get_or cs i d))
     ++ statements_from last (applied (take (i + 1) cs) part) (drop (i + 1) cs) ≡ statements_from last part cs
 from_begins last cs i d part low = grind (
-  arith, take-append-drop, (from_more last cs i d part low), (from_append last (take (i + 1) cs) (drop (i + 1) cs) part), (take-append-drop (i + 1) cs)
+  arith,
+  take-append-drop,
+  (from_more last cs i d part low),
+  (from_append last (take (i + 1) cs) (drop (i + 1) cs) part),
+  (take-append-drop (i + 1) cs),
 )
 
 -- by the last numbers that are known they are those of a save

@@ -32,15 +32,16 @@ pub same_nest : {P T : Type 0} (number : P → ℕ) (children : P → List T) (w
     IsNesting number children with_children → (parents : List P) (rows : List (Owned T)) (ps qs : List P) →
     IsNestOf number children with_children child_number parents rows ps → IsNestOf number children with_children child_number parents rows qs → ps ≡ qs
 same_nest number children with_children child_number laws parents rows ps qs left right = grind (
-  arith, nested-flat,
+  arith,
+  nested-flat,
   (same_ascending number 1 1 (map (λ p. with_children p []) ps) (map (λ p. with_children p []) qs)
-    (parents-ascend number children with_children laws ps left.ascends) (parents-ascend number children with_children laws qs right.ascends)
+      (parents-ascend number children with_children laws ps left.ascends) (parents-ascend number children with_children laws qs right.ascends)
       (IsPermutation-trans (map (λ p. with_children p []) ps) parents (map (λ p. with_children p []) qs)
-        (IsPermutation-sym parents (map (λ p. with_children p []) ps) left.parents_are) right.parents_are)),
+      (IsPermutation-sym parents (map (λ p. with_children p []) ps) left.parents_are) right.parents_are)),
   (same_strictly (by_owner child_number) (by_owner-total child_number) (child_rows number children ps) (child_rows number children qs)
-    (strictly-children number children child_number 1 ps left.ascends left.children_ascend)
+      (strictly-children number children child_number 1 ps left.ascends left.children_ascend)
       (strictly-children number children child_number 1 qs right.ascends right.children_ascend)
-        (IsPermutation-trans (child_rows number children ps) rows (child_rows number children qs)
-          (IsPermutation-sym rows (child_rows number children ps) left.rows_are) right.rows_are)),
-  (nested-flat number children with_children laws 1 ps left.ascends)
+      (IsPermutation-trans (child_rows number children ps) rows (child_rows number children qs)
+      (IsPermutation-sym rows (child_rows number children ps) left.rows_are) right.rows_are)),
+  (nested-flat number children with_children laws 1 ps left.ascends),
 )

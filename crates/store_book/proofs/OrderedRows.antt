@@ -52,8 +52,10 @@ above_owners : {P T : Type 0} (number : P → ℕ) (children : P → List T) (ch
     AllByRecursion (λ y. by_owner child_number (record { owner = k; row = t }) y ≡ Ordering.Less) (child_rows number children ps)
 above_owners number children child_number k t n [] lt h = tt
 above_owners number children child_number k t n (p ∷ ps) lt h = grind (
-  arith, each-append, (above_owners number children child_number k t (number p + 1) ps (omega arith) h.1),
-  (above_owner child_number k t (number p) (children p) (omega arith))
+  arith,
+  each-append,
+  (above_owners number children child_number k t (number p + 1) ps (omega arith) h.1),
+  (above_owner child_number k t (number p) (children p) (omega arith)),
 )
 
 all_above_owners : {P T : Type 0} (number : P → ℕ) (children : P → List T) (child_number : T → ℕ) (k : ℕ) (ts : List T) (n : ℕ)
@@ -80,8 +82,11 @@ pub strictly-children : {P T : Type 0} (number : P → ℕ) (children : P → Li
 unfolding IsStrictlySortedBy
 strictly-children number children child_number n [] h own = tt
 strictly-children number children child_number n (p ∷ ps) h own = grind (
-  arith, strictly-append, strictly-siblings, (strictly-children number children child_number (number p + 1) ps h.1 own.1),
-  (all_above_owners number children child_number (number p) (children p) (number p + 1) ps (omega arith) h.1)
+  arith,
+  strictly-append,
+  strictly-siblings,
+  (strictly-children number children child_number (number p + 1) ps h.1 own.1),
+  (all_above_owners number children child_number (number p) (children p) (number p + 1) ps (omega arith) h.1),
 )
 
 -- rows by number with the same elements are equal

@@ -35,7 +35,12 @@ strictly-from_distinct c o (x ∷ xs) up apart =
 pub strictly-from_other : {X : Type 0} (c : X → X → Ordering) → IsTotalOrder c → (xs ys : List X) → IsSorted c xs → IsStrictlySortedBy c ys →
     IsPermutation xs ys → IsStrictlySortedBy c xs
 strictly-from_other c o xs ys up rises permuted = search (
-  rules, strictly-from_distinct, IsDistinct-IsPermutation, equal_flips, IsPermutation-sym, IsDistinct-from_sorted
+  rules,
+  strictly-from_distinct,
+  IsDistinct-IsPermutation,
+  equal_flips,
+  IsPermutation-sym,
+  IsDistinct-from_sorted,
 )
 
 -- what holds of an element or is equal to a lower one holds
@@ -73,7 +78,13 @@ same_from_elements {X} c o (x ∷ xs) (y ∷ ys) up down to from =
 pub same_sorted : {X : Type 0} (c : X → X → Ordering) → IsTotalOrder c → (xs ys : List X) → IsSorted c xs → IsStrictlySortedBy c ys
     → IsPermutation xs ys → xs ≡ ys
 same_sorted c o xs ys up rises permuted = search (
-  rules, same_from_elements, strictly-from_other, recursion_from_All, All-permutation, All-from_recursion, IsPermutation-sym
+  rules,
+  same_from_elements,
+  strictly-from_other,
+  recursion_from_All,
+  All-permutation,
+  All-from_recursion,
+  IsPermutation-sym,
 )
 
 -- what rises strictly is the one order of its elements that does

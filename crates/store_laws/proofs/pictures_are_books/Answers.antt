@@ -5,6 +5,15 @@ use Rattle.std.proofs.Common.{rules}
 
 pub returns : goal.returns
 returns c = search (
-  rules, tables_book, tables_in_limits, parts_in_limits, flat_stored, picture_stored, records_in_limits, tables_are_texts, book_told, picture_told,
-  picture_is_stored_book
+  rules,
+  tables_book,
+  tables_in_limits,
+  parts_in_limits,
+  flat_stored,
+  picture_stored,
+  records_in_limits,
+  tables_are_texts,
+  book_told,
+  picture_told,
+  picture_is_stored_book,
 )

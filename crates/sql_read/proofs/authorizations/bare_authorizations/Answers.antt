@@ -8,4 +8,4 @@ find_rows-requires g c = query_as c.number-query.ensures (authorizations_asked (
 pub returns : goal.returns
 returns g c =
     looked_as c.number-query.ensures (λ T has book. authorizations_find g.S.Store c.args.conn.now T has book (authorizations_by.Number c.args.number))
-        c.find_rows.ensures
+    c.find_rows.ensures

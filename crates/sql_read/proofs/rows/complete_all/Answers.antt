@@ -40,5 +40,5 @@ returns-in_err-push-clause-looks g c is_open =
     let r = c.from_residual-in_err-push.result in
     stopped c.from_residual-in_err-push.ensures.0 (λ clean T has book may rows own.
     all_of_memory r (state g.S.Store c.args.conn.now) (state g.S.Store c.complete.new.conn)
-        (failed_as r (Engine (SqliteFailure OutOfMemory)) IsOfMemory refl c.from_residual-in_err-push.ensures.1))
+    (failed_as r (Engine (SqliteFailure OutOfMemory)) IsOfMemory refl c.from_residual-in_err-push.ensures.1))
     (asks_then _ _ _ c.loop-head.invariant.filled.asks c.in_ok-whole.ensures.asks)

@@ -12,7 +12,7 @@ returns-in-Some-clause-writes g c =
     set_some g.S.Store (challenge_differs n row stored) (nat_lt c.args.last row.number) (λ m. writes challenge_writing m (record { owner = n; row = row }))
     (differs_under n (λ old. challenge_difference old row) stored) c.of.ensures
     (c.challenge_difference-difference.ensures ∙ ap (option_map (λ old. challenge_difference old row)) c.stored_challenge.ensures) c.in-Some.is
-        c.write_challenge.ensures.writes
+    c.write_challenge.ensures.writes
 
 pub returns-in-None-clause-writes : goal.returns-in-None-clause-writes
 returns-in-None-clause-writes g c =

@@ -15,6 +15,9 @@ returns-clause-among c has =
 
 pub returns-clause-found : goal.returns-clause-found
 returns-clause-found c up among =
-    grind (arith, (search_finds c.deref.result.now c.args.number c.binary_search.result c.binary_search.ensures.position
-      (subst Rise (sym (c.deref.ensures.value ∙ c.self.view_is)) up)
-        (subst (λ l. IsAmong l c.args.number) (sym (c.deref.ensures.value ∙ c.self.view_is)) among)))
+    grind (
+      arith,
+      (search_finds c.deref.result.now c.args.number c.binary_search.result c.binary_search.ensures.position
+          (subst Rise (sym (c.deref.ensures.value ∙ c.self.view_is)) up)
+          (subst (λ l. IsAmong l c.args.number) (sym (c.deref.ensures.value ∙ c.self.view_is)) among)),
+    )

@@ -5,7 +5,7 @@ pub returns-clause-passed : goal.returns-clause-passed
 returns-clause-passed c =
     let took = c.takes.ensures in
     told_by c.takes.result
-        (owned_more (λ o. o.number) (λ o. o.account) c.args.row.now c.args.self.now.counter c.takes.new.self.counter c.args.self.now.owners.now
+    (owned_more (λ o. o.number) (λ o. o.account) c.args.row.now c.args.self.now.counter c.takes.new.self.counter c.args.self.now.owners.now
     c.takes.new.self.owners.now c.args.self.now.numbers c.takes.new.self.numbers c.takes.result took.counts took.numbers took.among took.owners)
     (λ passes so is first rows so_far. so is first.counter first.owners.now rows so_far)
 
