@@ -6,8 +6,10 @@ mod asking;
 #[cfg(test)]
 mod failing_streams;
 #[cfg(test)]
-mod first_nonce;
+mod nonces;
 #[cfg(test)]
 mod tests;
+#[cfg(test)]
+mod trial;
 #[cfg(test)]
 mod worked_run;

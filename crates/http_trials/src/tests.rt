@@ -1,10 +1,12 @@
 use crate::failing_streams::{FailingReader, FailingWriter};
-use crate::first_nonce::{ASKS_NONCE, FIRST_NONCE, MemoryDesk, new_desk, serve};
-use desk::DeskFault;
+use crate::nonces::{ASKS_NONCE, FIRST_NONCE, SECOND_NONCE, serve};
+use crate::trial::{Trial, new_desk_passes};
+use desk::{Desk, DeskFault};
 use desk_http::{IoFault, Served, ask};
 use std::alloc::Global;
 use std::process::Abort;
 use std::test::Fail;
+use store_api::Storage;
 
 // A request with a body.
 const POSTED: &[u8] = b"POST /new-account HTTP/1.1\r\nContent-Length: 2\r\n\r\n{}";
@@ -36,21 +38,8 @@ fn hears(alloc: Global, reply: &[u8]) -> bool {
     }
 }
 
-// Whether the desk, which has nothing yet, says so to the request that is sent.
-fn revokes_nothing(alloc: Global, desk: &mut MemoryDesk) -> bool {
-    hears(alloc, NOTHING_HERE) && gives(alloc, desk, REVOKES, NOTHING_HERE)
-}
-
-// Whether a new desk does.
-fn new_desk_revokes_nothing(rt: &impl Abort, alloc: Global) -> Result<bool, Fail> {
-    let mut desk = new_desk(rt, alloc)?;
-    let revokes = revokes_nothing(alloc, &mut desk);
-    drop(desk);
-    Ok(revokes)
-}
-
 // Whether the desk gives this reply.
-fn gives(alloc: Global, desk: &mut MemoryDesk, asked: &[u8], reply: &[u8]) -> bool {
+fn gives<K: Storage + Drop>(alloc: Global, desk: &mut Desk<K>, asked: &[u8], reply: &[u8]) -> bool {
     let mut input = asked;
     let mut output = Vec::new(alloc);
     let served = serve(alloc, &mut input, &mut output, desk);
@@ -58,7 +47,7 @@ fn gives(alloc: Global, desk: &mut MemoryDesk, asked: &[u8], reply: &[u8]) -> bo
 }
 
 // Whether a reader that fails behind these bytes is told, and nothing is written.
-fn fails_to_read(alloc: Global, desk: &mut MemoryDesk, bytes: &[u8]) -> bool {
+fn fails_to_read<K: Storage + Drop>(alloc: Global, desk: &mut Desk<K>, bytes: &[u8]) -> bool {
     let mut reader = FailingReader { bytes };
     let mut output = Vec::new(alloc);
     let served = serve(alloc, &mut reader, &mut output, desk);
@@ -66,7 +55,7 @@ fn fails_to_read(alloc: Global, desk: &mut MemoryDesk, bytes: &[u8]) -> bool {
 }
 
 // Whether this is so behind each beginning of a request.
-fn fails_to_read_all(alloc: Global, desk: &mut MemoryDesk) -> bool {
+fn fails_to_read_all<K: Storage + Drop>(alloc: Global, desk: &mut Desk<K>) -> bool {
     for at in 0..POSTED.len() {
         if !fails_to_read(alloc, desk, &POSTED[..at]) {
             return false;
@@ -75,33 +64,54 @@ fn fails_to_read_all(alloc: Global, desk: &mut MemoryDesk) -> bool {
     true
 }
 
-// Whether a desk gives its first nonce after readers that fail.
-fn gives_nonce_after_failures(alloc: Global, desk: &mut MemoryDesk) -> bool {
-    fails_to_read_all(alloc, desk) && gives(alloc, desk, ASKS_NONCE, FIRST_NONCE)
+// A desk that has nothing yet says so to a request for the end of an authorization.
+#[derive(Drop)]
+struct NothingRevoked;
+
+impl Trial for NothingRevoked {
+    fn passes<A: Abort, K: Storage + Drop>(
+        &self,
+        _rt: &A,
+        alloc: Global,
+        desk: &mut Desk<K>,
+    ) -> Result<bool, Fail> {
+        Ok(gives(alloc, desk, REVOKES, NOTHING_HERE))
+    }
 }
 
-// Whether a new desk does.
-fn new_desk_gives_nonce(rt: &impl Abort, alloc: Global) -> Result<bool, Fail> {
-    let mut desk = new_desk(rt, alloc)?;
-    let gives = gives_nonce_after_failures(alloc, &mut desk);
-    drop(desk);
-    Ok(gives)
+// A desk gives its first nonce after readers that fail.
+#[derive(Drop)]
+struct FailedReaders;
+
+impl Trial for FailedReaders {
+    fn passes<A: Abort, K: Storage + Drop>(
+        &self,
+        _rt: &A,
+        alloc: Global,
+        desk: &mut Desk<K>,
+    ) -> Result<bool, Fail> {
+        Ok(fails_to_read_all(alloc, desk) && gives(alloc, desk, ASKS_NONCE, FIRST_NONCE))
+    }
 }
 
-// Whether a writer that fails behind so many bytes is told, and a new desk gives the nonce all the same.
-fn new_desk_fails_to_write(rt: &impl Abort, alloc: Global, room: usize) -> Result<bool, Fail> {
-    let mut desk = new_desk(rt, alloc)?;
-    let fails = fails_to_write(alloc, &mut desk, room);
-    drop(desk);
-    Ok(fails)
+// A writer that fails behind so many bytes is told; the first nonce was issued all the same, so that the next request gives the second.
+#[derive(Drop)]
+struct FailedWriter {
+    room: usize,
 }
 
-// Whether a writer that fails behind so many bytes is told, and the desk gives the nonce all the same.
-fn fails_to_write(alloc: Global, desk: &mut MemoryDesk, room: usize) -> bool {
-    let mut input = ASKS_NONCE;
-    let mut writer = FailingWriter { room };
-    let served = serve(alloc, &mut input, &mut writer, desk);
-    served == Err(IoFault::Write) && !gives(alloc, desk, ASKS_NONCE, FIRST_NONCE)
+impl Trial for FailedWriter {
+    fn passes<A: Abort, K: Storage + Drop>(
+        &self,
+        _rt: &A,
+        alloc: Global,
+        desk: &mut Desk<K>,
+    ) -> Result<bool, Fail> {
+        let mut input = ASKS_NONCE;
+        let mut writer = FailingWriter { room: self.room };
+        let served = serve(alloc, &mut input, &mut writer, desk);
+        Ok(served == Err(IoFault::Write) && gives(alloc, desk, ASKS_NONCE, SECOND_NONCE))
+    }
 }
 
 // Whether a fault has this text.
@@ -112,14 +122,14 @@ fn has_text(alloc: Global, fault: DeskFault, wanted: &str) -> Result<bool, Fail>
 
 #[test]
 fn first_nonce_is_given_after_readers_that_fail(rt: HostRuntime) -> Result<(), Fail> {
-    assert!(rt; new_desk_gives_nonce(&rt, rt.alloc())?);
+    assert!(rt; new_desk_passes(&rt, rt.alloc(), &FailedReaders)?);
     Ok(())
 }
 
 #[test]
 fn what_is_asked_is_answered(rt: HostRuntime) -> Result<(), Fail> {
-    assert!(rt; new_desk_revokes_nothing(&rt, rt.alloc())?);
-    for reply in [b"HTTP/1.1 200 OK\r\n".as_slice(), b"HTTP/1.1 200", b""] {
+    assert!(rt; new_desk_passes(&rt, rt.alloc(), &NothingRevoked)?);
+    for reply in [NOTHING_HERE, b"HTTP/1.1 200 OK\r\n", b"HTTP/1.1 200", b""] {
         assert!(rt; hears(rt.alloc(), reply));
     }
     Ok(())
@@ -128,7 +138,7 @@ fn what_is_asked_is_answered(rt: HostRuntime) -> Result<(), Fail> {
 #[test]
 fn a_writer_that_fails_is_told(rt: HostRuntime) -> Result<(), Fail> {
     for room in 0..FIRST_NONCE.len() + 1 {
-        assert!(rt; new_desk_fails_to_write(&rt, rt.alloc(), room)?);
+        assert!(rt; new_desk_passes(&rt, rt.alloc(), &FailedWriter { room })?);
     }
     Ok(())
 }

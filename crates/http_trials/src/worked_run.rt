@@ -1,12 +1,13 @@
 //! The specification's first calls in one run of a desk, with their replies (docs/SPECIFICATION.md, 16).
 use crate::asking::{call, request};
-use crate::first_nonce::{MemoryDesk, new_desk};
-use desk::DeskFault;
+use crate::trial::{Trial, new_desk_passes};
+use desk::{Desk, DeskFault};
 use desk_http::problem_document;
 use desk_model::{Ask, Body, Call, Reply, Sequence, Target, Text};
 use std::alloc::{AllocError, Global};
 use std::process::Abort;
 use std::test::Fail;
+use store_api::Storage;
 
 // The first nonce of a desk whose random bytes are all zero.
 const NONCE: &str = "AAAAAAAAAAEAAAAAAAAAAAAAAAAAAAAA";
@@ -91,7 +92,11 @@ fn are_first(alloc: Global, replies: &[Reply]) -> Result<bool, AllocError> {
 }
 
 // Whether a run of the first calls gives the first replies, and no fault.
-fn runs_first(rt: &impl Abort, alloc: Global, desk: &mut MemoryDesk) -> Result<bool, Fail> {
+fn runs_first<K: Storage + Drop>(
+    rt: &impl Abort,
+    alloc: Global,
+    desk: &mut Desk<K>,
+) -> Result<bool, Fail> {
     let calls = first_calls(rt, alloc)?;
     let (replies, fault) = desk.run(alloc, calls.as_slice());
     drop(calls);
@@ -101,31 +106,34 @@ fn runs_first(rt: &impl Abort, alloc: Global, desk: &mut MemoryDesk) -> Result<b
 }
 
 // Whether a run ends at a call that lacks random bytes.
-fn ends_at_short(alloc: Global, desk: &mut MemoryDesk) -> Result<bool, Fail> {
+fn ends_at_short<K: Storage + Drop>(alloc: Global, desk: &mut Desk<K>) -> Result<bool, Fail> {
     let calls = short_calls(alloc)?;
     let (replies, fault) = desk.run(alloc, calls.as_slice());
     drop(calls);
     Ok(replies.is_empty() && fault == Some(DeskFault::ShortRandom))
 }
 
-// Whether a new desk runs so.
-fn new_desk_runs(rt: &impl Abort, alloc: Global) -> Result<[bool; 2], Fail> {
-    let mut desk = new_desk(rt, alloc)?;
-    let ran = match runs_first(rt, alloc, &mut desk) {
-        Ok(first) => match ends_at_short(alloc, &mut desk) {
-            Ok(short) => Ok([first, short]),
-            Err(fail) => Err(fail),
-        },
-        Err(fail) => Err(fail),
-    };
-    drop(desk);
-    ran
+// The first calls run to their end, and calls without random bytes to the first of these.
+#[derive(Drop)]
+struct Runs;
+
+impl Trial for Runs {
+    fn passes<A: Abort, K: Storage + Drop>(
+        &self,
+        rt: &A,
+        alloc: Global,
+        desk: &mut Desk<K>,
+    ) -> Result<bool, Fail> {
+        let runs_first = runs_first(rt, alloc, desk)?;
+        let ends_at_short = ends_at_short(alloc, desk)?;
+        Ok(runs_first && ends_at_short)
+    }
 }
 
 #[test]
 fn first_calls_run_to_their_end_and_short_ones_to_the_first_fault(
     rt: HostRuntime,
 ) -> Result<(), Fail> {
-    assert!(rt; new_desk_runs(&rt, rt.alloc())? == [true, true]);
+    assert!(rt; new_desk_passes(&rt, rt.alloc(), &Runs)?);
     Ok(())
 }
