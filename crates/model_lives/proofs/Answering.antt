@@ -155,7 +155,7 @@ IsReplied k m S (moves (move.Answered n)) =
     × (moved_reply (restricted k (effect m S (answered n))) (move.Answered n) ≡ moved_reply (effect m S (answered n)) (move.Answered n))
 IsReplied k m S _ = ⊥
 
--- the owner and its account are kept
+-- a verdict on an answer, by an account: the authorization of the challenge and its account are kept
 account_way : (k : Kept) (m : ℕ) (S : Tables) (r : List ℕ) (n : ℕ) (p : List ℕ) (j : ℕ) (v : Verdict) → IsClosed k S → HoldersKept k S (answered j)
     → OwnersKept k S j → OfAccount S r n p (to.Chall j) v → IsReplied k m S v
 account_way k m S r n p j v closed holders owners (OfAccount.turned_away t why ss) = tt

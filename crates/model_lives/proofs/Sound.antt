@@ -115,10 +115,10 @@ office_sound r T a formed = office_way r T a (office_verdict T a) formed (office
 
 -- ---- nonces
 
--- and so in any form
+-- an open nonce that a call carries, in whatever form, stands in the tables
 carried_serial : (T : Tables) (o : Option NonceText) (serial : ℕ) → open_nonce_in T o ≡ Some serial → is_some (nonce_on T serial) ≡ true
 carried_serial T o serial h = grind arith
 
--- an open nonce stands in the tables
+-- an open nonce that a text spells stands in the tables
 pub open_serial : (T : Tables) (text : Option (List ℕ)) (serial : ℕ) → open_nonce T text ≡ Some serial → is_some (nonce_on T serial) ≡ true
 open_serial T text serial h = carried_serial T (option_and_then nonce_in text) serial h

@@ -17,12 +17,12 @@ use Rattle.sql_read.proofs.{JoinParts.joined_params, TableFacts.RowFacts, TableF
 
 -- ---- an order of what a map gives
 
--- what holds of each item
+-- what holds of each item that a map gives, of what it is given
 all_of_map : {X Y : Type 0} (P : Y → Type 0) (f : X → Y) (xs : List X) → AllByRecursion P (map f xs) → AllByRecursion (λ x. P (f x)) xs
 all_of_map P f [] h = tt
 all_of_map P f (x ∷ xs) h = (h.0, all_of_map P f xs h.1)
 
--- is one of what it is given
+-- where a map gives items in a strict order, it is given them in that order
 strictly_of_map : {X Y : Type 0} (cmp : Y → Y → Ordering) (f : X → Y) (xs : List X) → IsStrictlySortedBy cmp (map f xs)
     → IsStrictlySortedBy (λ x y. cmp (f x) (f y)) xs
 unfolding IsStrictlySortedBy

@@ -42,7 +42,7 @@ twice m = (Int (pos m) ∷ [], Int (pos m) ∷ [])
 then_equal : (o : Ordering) → ordering_then o Equal ≡ o
 then_equal o = search rules
 
--- none is there
+-- where no moment can be, there is none
 none_of : (ms : List ℕ) → AllByRecursion (λ _. ⊥) (map twice ms) → ms ≡ []
 none_of [] h = refl
 none_of (m ∷ ms) h = absurd h.0
@@ -51,12 +51,12 @@ none_of (m ∷ ms) h = absurd h.0
 abbrev IsMoment : Output → Type 0
 IsMoment o = (m : ℕ) × (o ≡ twice m)
 
--- as each is
+-- each is a moment
 are_moments : (ms : List ℕ) → AllByRecursion IsMoment (map twice ms)
 are_moments [] = tt
 are_moments (m ∷ ms) = ((m, refl), are_moments ms)
 
--- none was found where there is none
+-- nothing is found where there is none
 found_none : (ms : List ℕ) (found : Option ℕ) → option_map (λ m. pos m) found ≡ None → ms ≡ [] → IsEarliest ms found
 found_none ms found h k = search rules
 

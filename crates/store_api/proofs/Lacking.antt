@@ -160,8 +160,7 @@ whole_challenges : (T : Tables) (m : ℕ) (a : Ask) (rs : List AuthorizationRow)
 whole_challenges T m a [] = refl
 whole_challenges T m a (r ∷ rs) = grind (arith, (whole_challenges T m a rs))
 
--- the authorizations that may change, or are named or wanted, and those that orders list, which lack their challenges, are the authorizations as
--- they are needed
+-- the authorizations that may change, are named or are wanted, and bare ones that orders list, are those of the rows as they are needed
 pub needed_authorizations : (T : Tables) (m : ℕ) (a : Ask) → IsOrdered T →
     missings of_authorization (bare_authorizations T) (flat_map (λ (o : OrderRow). numbers_of o.listed) (orders_once (opened_orders T m a)))
     (puts of_authorization
