@@ -22,6 +22,7 @@ faultless F call at fits enough = search rules
 
 -- ---- numbers
 
+-- the counters of a legal history fit
 pub counters : (F : History) → Legal F → CountersFit (picture F).meta.counters
 counters F legal = counters_fit F legal.numbered (clock F)
 
@@ -35,9 +36,11 @@ pub fits_same : (F G : History) → nonces F ≡ nonces G ++ [] → accounts F �
     authorizations F ≡ authorizations G ++ [] → CountersFit (picture G).meta.counters → CountersFit (picture F).meta.counters
 fits_same F G n a o z h = search rules
 
+-- they do when a nonce was spent
 fits_spent : (F : History) (m n : ℕ) → CountersFit (picture F).meta.counters → CountersFit (picture (record { date = m; entry = spent n } ∷ F)).meta.counters
 fits_spent F m n h = fits_same (record { date = m; entry = spent n } ∷ F) F refl refl refl refl h
 
+-- a spent nonce adds none
 nonces_stay : (F : History) (m n : ℕ) → length (nonces (record { date = m; entry = spent n } ∷ F)) ≡ length (nonces F)
 nonces_stay F m n = omega (arith, length-append (nonces F) [])
 

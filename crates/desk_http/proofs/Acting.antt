@@ -25,6 +25,7 @@ module _ {S C : Type 0} (v : Sight S C) (causes : Causes S) where
     responds_acts (request.Looks l) result old new r = inl (r.1)
     responds_acts (request.Refused reply) result old new r = inl (r.1)
 
+    -- so does the answer to what was asked
     answer_acts : (result : Result Reply DeskFault) (old new : DeskState S) → HasAnswer v causes at random None old new result
         → ActsOnce v old new
     answer_acts result old new a = responds_acts a.request result old new a.responds

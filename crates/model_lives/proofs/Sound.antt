@@ -89,6 +89,7 @@ open_sound r T s key q formed is none asked pass =
       };
     }
 
+-- by each way of a signed request
 request_way : (r : List ℕ) (T : Tables) (s : Signed) (t : Target) (v : Verdict) → IsOrdered T → IsFormedSigned s → OfRequest T r s t v → IsSound r T v
 request_way r T s t v in_order formed (OfRequest.unheld u why) = record { records = tt }
 request_way r T s t v in_order formed (OfRequest.opened key q is none asked pass) = open_sound r T s key q formed is none asked pass
@@ -101,6 +102,7 @@ signed_sound r T s in_order formed = request_way r T s s.target (signed_verdict 
 
 -- ---- the other asks
 
+-- by each way of what carries no nonce
 office_way : (r : List ℕ) (T : Tables) (a : OfficeAsk) (v : Verdict) → IsFormedOfficeAsk a → way T a v → IsSound r T v
 office_way r T a v formed (way.reported n finding x c outcome found there waits) = move_sound _ tt tt (rw (found, there) waits)
 office_way r T a v formed (way.certified n bytes o found low high waits) = move_sound _ tt tt (rw found (and_from _ _ waits (and_from _ _ low high)))

@@ -69,6 +69,7 @@ module _ {C A : Type 0} (number : C → ℕ) (key : A → ℕ) (rows : List A) w
   firsts [] h = refl
   firsts (c ∷ cs) h = ap (λ as'. map (λ (x : C × A). x.0) (map (λ a. (c, a)) as' ++ pairs cs)) h.0.1.0 ∙ ap (λ l. c ∷ l) (firsts cs h.1)
 
+  -- and stands beside its own
   pub each_beside : (cs : List C) → EachOf HasOne cs → EachOf IsBeside (pairs cs)
   each_beside [] h = tt
   each_beside (c ∷ cs) h =

@@ -28,6 +28,7 @@ waiting_pairs T = pairs owner (λ a. a.number) T.authorizations (found_waiting T
 abbrev pub waiting_of : Pair → JoinedChallenge
 waiting_of x = record { authorization = without_challenges x.1; challenge = x.0.row }
 
+-- those that wait, each with its authorization
 abbrev pub waiting_rows : Tables → List JoinedChallenge
 waiting_rows T = map waiting_of (waiting_pairs T)
 

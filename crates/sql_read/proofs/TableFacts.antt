@@ -68,6 +68,7 @@ module _ {X R C : Type 0} (r : RowFacts X R C) where
   abbrev pub columns : X → C
   columns x = r.write (r.bare x)
 
+  -- what is shown of a row
   abbrev pub cells : X → Row
   cells x = r.row (columns x)
 
