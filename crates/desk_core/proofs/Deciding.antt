@@ -49,7 +49,7 @@ pub fits_nonces : (F : History) (m n : ℕ) (r : List ℕ) → CountersFit (pict
     CountersFit (picture (record_all m (spent n ∷ issued r ∷ []) F)).meta.counters
 fits_nonces F m n r h lt = fits_issued (record { date = m; entry = spent n } ∷ F) m r (fits_spent F m n h) (omega (arith, nonces_stay F m n))
 
--- nor that it has spent them
+-- a verdict that spent the numbers of some counters spent those of equal ones, whatever their nonces
 pub spent_same : (C D : Counters) (v : Verdict) → C.accounts ≡ D.accounts → C.orders ≡ D.orders → C.authorizations ≡ D.authorizations
     → C.challenges ≡ D.challenges → NumbersSpent D v → NumbersSpent C v
 spent_same C D v h k l g e = search rules

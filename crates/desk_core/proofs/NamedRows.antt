@@ -68,6 +68,6 @@ office_way T a v (way.account_revoked n x found valid) = there _ x found
 office_way T a v (way.key_shown n x found) = there _ x found
 office_way T a v _ = tt
 
--- each of them
+-- so what carries no nonce names rows that are there
 pub office_there : (T : Tables) (a : OfficeAsk) → NamesRows T (office_verdict T a)
 office_there T a = office_way T a (office_verdict T a) (office_judged T a)

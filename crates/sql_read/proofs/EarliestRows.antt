@@ -111,7 +111,7 @@ earliest_in ms found (o ∷ os) moved up is =
 
 -- ---- moments of a table
 
--- so the first is one
+-- the first of outputs that are moments is one
 begin_with_moment : (os : List Output) (rows : List Row) → AllByRecursion IsMoment os → rows ≡ first_of (map (λ (o : Output). o.1) os) → BeginWithMoment rows
 begin_with_moment [] rows all are = subst BeginWithMoment (sym are) tt
 begin_with_moment (o ∷ os) rows all are = subst BeginWithMoment (sym are) (all.0.0, ap (λ (p : Output). p.1) all.0.1)

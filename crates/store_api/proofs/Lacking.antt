@@ -95,7 +95,7 @@ module _ {X : Type 0} (number : X → ℕ) (bare needed : X → X) (bare_number 
       ∙ ap (λ t. map needed (puts number zs t))
       (sym (put_number number xs up (number z) q) ∙ ap (λ rows. puts number rows (filter q xs)) (rows_one number 1 (number z) z xs up h.0))
 
-  -- and those of numbers in a row
+  -- and so are bare rows of numbers, one after the other
   bares_put : (ns : List ℕ) (q : X → Bool) → ((x : X) → is_whole x ≡ true → q x ≡ true) →
       missings number (λ k. map bare (rows_at number xs k)) ns (map needed (filter q xs))
       ≡ map needed (puts number (flat_map (rows_at number xs) ns) (filter q xs))

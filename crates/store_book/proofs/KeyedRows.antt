@@ -142,7 +142,7 @@ module _ (rows : FlatRows) (T : Tables) (book : IsBookOf rows T) (by_key : AreBy
   listed_are : AreListed (map (λ o. o.number) rows.orders) (map (λ a. a.number) rows.authorizations) rows.listed
   listed_are = search (rules, places_rise, each_listed, each, each_all, order_numbers, all_among, authorization_among)
 
-  -- so it is of challenges
+  -- what holds of each challenge holds of all that was shown
   each_challenge : (Q : Owned BareChallenge → Type 0)
       → EachOf (λ a. EachOf (λ c. Q (bare_row (record { owner = a.number; row = c }))) a.challenges) T.authorizations → EachOf Q rows.challenges
   each_challenge Q h =
@@ -200,6 +200,6 @@ module _ (rows : FlatRows) (T : Tables) (book : IsBookOf rows T) (by_key : AreBy
     keys = keys_are;
   }
 
--- they are so
+-- so it is of the rows of each book
 pub books_have_rows : BooksHaveRows
 books_have_rows = are
