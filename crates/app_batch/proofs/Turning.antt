@@ -12,6 +12,7 @@ use Rattle.store_api.specs.Sight.{Sight}
 
 -- ---- the reader's bytes
 
+-- no bytes before what remains leave it
 prepend_nothing : (remaining : Option (List ℕ)) → prepend_known [] remaining ≡ remaining
 prepend_nothing None = refl
 prepend_nothing (Some xs) = refl

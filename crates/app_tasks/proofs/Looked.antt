@@ -32,6 +32,7 @@ module _ {S C : Type 0} (v : Sight S C) {R : Type 0} (old new : S) where
       → Looks v old new look
   looks_by report look ends it = subst (λ l. Looks v old new l) (sym ends) (looks report it)
 
+  -- what is so of a report is so of the look that it ends
   pub shown_by : (report : Result R ReportFault) (look : Result Unit LookFault) → look ≡ look_ended report → (P : Tables → Type 0)
       → ForTables v old new (λ T. OnOk report (P T)) → ForTables v old new (λ T. OnOk look (P T))
   shown_by report look ends P it = subst (λ l. ForTables v old new (λ T. OnOk l (P T))) (sym ends) (shown report P it)

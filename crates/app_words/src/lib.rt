@@ -1,4 +1,4 @@
-//! The words of the command line, read as the commands that they ask for. `app_commands` stands on it.
+//! The words of the command line, read as the commands that they ask for. `app_tasks` and `app_commands` stand on it.
 #![tactic(auto)]
 
 mod arguments;

@@ -123,6 +123,7 @@ waits_on : (o : Option AuthorizationRow) (rest : List AuthzStatus) → holds (λ
     (list_any is_over (and_status o rest) ≡ list_any is_over rest) × (list_all is_valid (and_status o rest) ≡ false)
 waits_on o rest h = search rules
 
+-- a valid authorization is not over
 valid_on : (o : Option AuthorizationRow) (rest : List AuthzStatus) → holds (λ r. is_valid r.status) o ≡ true →
     (list_any is_over (and_status o rest) ≡ list_any is_over rest) × (list_all is_valid (and_status o rest) ≡ list_all is_valid rest)
 valid_on o rest h = search rules

@@ -11,14 +11,17 @@ use Rattle.desk_model.specs.declared.status.AccountStatus.TheVariants as account
 use Rattle.core_changes.specs.Recorded.{IsRecorded, last_account, last_change, last_order}
 use Rattle.core_changes.proofs.QuietEntries.{spent_counters, spent_changes, issued_counters, issued_changes, opened_counters, opened_changes}
 
+-- the changes of one more entry come last
 all_changes-last : (m : ℕ) (T : Tables) (es : List Entry) (e : Entry) → all_changes m T (es ++ e ∷ []) ≡ all_changes m T es ++ changes m (effects m T es) e
 all_changes-last m T [] e = append-nil (changes m T e)
 all_changes-last m T (d ∷ es) e = grind (arith, append_assoc, (all_changes-last m (effect m T d) es e))
 
+-- one more entry takes effect last
 effects-last : (m : ℕ) (T : Tables) (es : List Entry) (e : Entry) → effects m T (es ++ e ∷ []) ≡ effect m (effects m T es) e
 effects-last m T [] e = refl
 effects-last m T (d ∷ es) e = effects-last m (effect m T d) es e
 
+-- entries at a moment leave the clock at it
 clocked : (m : ℕ) (T : Tables) (es : List Entry) → T.meta.counters.clock ≡ m → (effects m T es).meta.counters.clock ≡ m
 clocked m T [] h = h
 clocked m T (e ∷ es) h = clocked m (effect m T e) es refl
@@ -107,6 +110,7 @@ both_ok r h k l = search rules
 
 -- ---- the row that the last change puts
 
+-- the last change is found in its place
 slice_get-end : (done : List Change) (c : Change) → slice_get (done ++ c ∷ []) (length done) ≡ Some c
 slice_get-end [] c = refl
 slice_get-end (d ∷ done) c = slice_get-end done c
@@ -119,5 +123,6 @@ last-pushed done c = grind (arith, nat_tests, length-append, slice_get-end, (sli
 pub last_account-pushed : (done all : List Change) (row : AccountRow) → all ≡ done ++ PutAccount row ∷ [] → last_account all ≡ Some row
 last_account-pushed done all row pushed = search (rules, last-pushed)
 
+-- the order that was put last
 pub last_order-pushed : (done all : List Change) (row : OrderRow) → all ≡ done ++ PutOrder row ∷ [] → last_order all ≡ Some row
 last_order-pushed done all row pushed = search (rules, last-pushed)

@@ -28,6 +28,7 @@ pub lists_swept : (e : Entry) (m : ℕ) (rows : List AuthorizationRow) (ns : Lis
 lists_swept e m rows [] = refl
 lists_swept e m rows (n ∷ ns) = grind (arith, swept_numbered, touches_swept)
 
+-- an entry touches a swept order by swept rows where it touches the order by the rows
 pub touches_swept_rows : (e : Entry) (m : ℕ) (rows : List AuthorizationRow) (row : OrderRow) →
     touches_order e (swept_rows m rows) (swept_order m rows row) ≡ touches_order e rows row
 touches_swept_rows e m rows row = grind (arith, (lists_swept e m rows (numbers_of row.listed)))

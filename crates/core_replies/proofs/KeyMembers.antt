@@ -12,6 +12,7 @@ use Rattle.core_replies.specs.Shown.{with_members}
 abbrev parts : List ℕ → List (List ℕ)
 parts text = slice_split (λ c. c == 34) text
 
+-- a byte of base64url is no quotation mark
 unmarked : (c : ℕ) → is_base64url_byte c ≡ true → (c == 34) ≡ false
 unmarked c is = grind (arith, nat_tests)
 
@@ -26,6 +27,7 @@ parts-of (c ∷ cs) rest each = grind (
   (parts-of cs rest (and_parts (is_base64url_byte c) (list_all is_base64url_byte cs) each).1),
 )
 
+-- the name of a curve is of such bytes
 curve_bytes : (crv : List ℕ) → IsCurve crv → list_all is_base64url_byte crv ≡ true
 curve_bytes crv h = search rules
 
@@ -40,6 +42,7 @@ parts-canonical (okp x) =
     codes "{" ∷ codes "crv" ∷ codes ":" ∷ codes "Ed25519" ∷ codes "," ∷ codes "kty" ∷ codes ":" ∷ codes "OKP" ∷ codes "," ∷ codes "x" ∷ codes ":" ∷ x
     ∷ codes "}" ∷ []
 
+-- the parts of a canonical text are those of its key
 parts-are : (k : Key) → IsKey k → parts (canonical_text k) ≡ parts-canonical k
 unfolding parts-canonical
 parts-are (ec crv x y) formed =
@@ -57,6 +60,7 @@ parts-are (okp x) formed =
     ap (λ l. codes "{" ∷ codes "crv" ∷ codes ":" ∷ codes "Ed25519" ∷ codes "," ∷ codes "kty" ∷ codes ":" ∷ codes "OKP" ∷ codes "," ∷ codes "x" ∷ codes ":" ∷ l)
     (parts-of x (codes "}") (number_bytes x formed))
 
+-- the members of a key stand in the order of their names
 in_order : (k : Key) → with_members (key_members (parts-canonical k)) no_members ≡ members (key_members (parts-canonical k))
 unfolding parts-canonical
 in_order (ec crv x y) = refl

@@ -7,11 +7,11 @@ use Rattle.desk_model.specs.{Name.Name, Tables.Tables, Rules.pieces, Rules.wante
 use Rattle.core_rules.specs.Making.{drawn_by, drawn_for, gets, leaves, made_by, made_for, served_name, wanted_for}
 use Rattle.core_rules.specs.declared.new_orders.ServedName.{ServedName}
 
--- so has what is drawn for it
+-- at most two tokens are drawn for a name
 pub drawn-le : (s : ServedName) → drawn_for s ≤ 2
 drawn-le s = search rules
 
--- one authorization is made for it at most
+-- and no more than two authorizations are made
 pub made-le : (s : ServedName) → made_for s ≤ 2
 made-le s = search rules
 

@@ -15,19 +15,23 @@ use Rattle.core_rules.specs.declared.fault.CoreFault.TheVariants as fault
 abbrev pub Spares : Verdict → Type 0
 Spares v = (C : Counters) (random : List ℕ) → NumbersLeft C v × BytesLeft random v
 
+-- a verdict behind a test
 check-spares : (b : Bool) (number : Refusal) (v : Verdict) → Spares v → Spares (check b number v)
 unfolding check
 check-spares true number v h = h
 check-spares false number v h = λ C random. (tt, tt)
 
+-- a verdict on what there may be
 given-spares : {X : Type 0} (o : Option X) (number : Refusal) (v : X → Verdict) → ((x : X) → Spares (v x)) → Spares (given o number v)
 unfolding given
 given-spares None number v h = λ C random. (tt, tt)
 given-spares (Some x) number v h = h x
 
+-- a change to a key that another account may have
 rekey-spares : (n : ℕ) (key : List ℕ) (o : Option AccountRow) → Spares (rekey_verdict n key o)
 rekey-spares n key o = search rules
 
+-- a change of keys
 key_change-spares : (T : Tables) (n : ℕ) (c : KeyChange) → Spares (key_change_verdict T n c)
 key_change-spares T n c = check-spares _ _ _ (given-spares _ _ _ (λ key. rekey-spares n key (account_with_key T key)))
 

@@ -22,7 +22,7 @@ use Rattle.desk.specs.declared.fault.DeskFault.TheVariants as deskfault
 
 -- ---- faults
 
--- it is no late moment
+-- a fault of the store is no late moment
 storage_in_time : (cause : StorageFault) → deskfault.Moment ≡ storage_fault cause → ⊥
 storage_in_time cause h = search rules
 
@@ -32,24 +32,25 @@ storage_in_time cause h = search rules
 abbrev pub Faults : Result Reply DeskFault → DeskFault → Type 0
 Faults result why = IsErrAnd result (λ w. w ≡ why)
 
--- it is no late moment
+-- nor is a result that is one
 pub storage_result_in_time : (cause : StorageFault) (result : Result Reply DeskFault) → Faults result (storage_fault cause) →
     result ≡ Err deskfault.Moment → ⊥
 storage_result_in_time cause result is late = storage_in_time cause (subst (λ r. Faults r (storage_fault cause)) late is)
 
--- nor is that of a decision
+-- a fault of a decision is no late moment
 core_in_time : (e : CoreFault) → deskfault.Moment ≡ core_fault e → ⊥
 core_in_time e h = search rules
 
+-- nor is a result that is one
 pub core_result_in_time : (e : CoreFault) (result : Result Reply DeskFault) → Faults result (core_fault e) → result ≡ Err deskfault.Moment → ⊥
 core_result_in_time e result is late = core_in_time e (subst (λ r. Faults r (core_fault e)) late is)
 
--- where it was read, it is none
+-- a call that was read is late, by its result, where its moment is past the last
 pub read_late : {A : Type 0} (read : A) (result : Result Reply DeskFault) (at : ℕ) → (result ≡ Err deskfault.Moment → ⊥) →
     (◌≡◌ {A = Result A CallFault} (Ok read) (Err callfault.Moment) ↔ (last_moment < at)) → (result ≡ Err deskfault.Moment) ↔ (last_moment < at)
 read_late read result at in_time late = (λ so. absurd (in_time so), λ past. let so = late.1 past in cc so)
 
--- and its moment is not past the last
+-- the moment of a call that was read is not past the last
 pub read_in_time : {A : Type 0} (read : A) (at : ℕ) → (◌≡◌ {A = Result A CallFault} (Ok read) (Err callfault.Moment) ↔ (last_moment < at)) →
     last_moment < at → ⊥
 read_in_time read at late past = let so = late.1 past in cc so

@@ -27,11 +27,11 @@ ran_out F call calls n some = rw some refl
 
 -- ---- calls that are too late
 
--- memory was refused before it
+-- a fault of memory tells of no call that it is too late
 pub tells_memory : (rest : List Call) → TellsLate rest deskfault.Memory
 tells_memory rest = record { late = λ is. absurd (let e = is in cc); told = λ past. inr refl }
 
--- as the next call of all
+-- what is told of the next call and the rest is told of the calls that are left
 pub late_at : (calls : List Call) (n i : ℕ) (call : Call) (why : DeskFault) → n ≡ i → i < length calls → call ≡ get_or calls i call
     → ((rest : List Call) → TellsLate (call ∷ rest) why) → TellsLate (drop n calls) why
 late_at calls n i call why counted lt is tells = search (rules, drop-cons)

@@ -1,4 +1,5 @@
-//! One desk over a store: calls from tables to tables. `desk_files`, `desk_http`, `app_batch` and `app_commands` stand on it.
+//! One desk over a store: calls from tables to tables. `desk_files`, `desk_http`,
+//! `app_batch`, `app_tasks`, `app_files` and `app_commands` stand on it.
 #![tactic(auto)]
 
 mod desk;

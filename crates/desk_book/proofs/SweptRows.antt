@@ -25,6 +25,7 @@ find-moved test move xs same = find-map test move xs ∙ (λ i. option_map move 
 pub swept_authorization_on : (m : ℕ) (T : Tables) (n : ℕ) → authorization_on (swept m T) n ≡ option_map (swept_authorization m) (authorization_on T n)
 swept_authorization_on m T n = grind (arith, nat_tests, find-moved, swept_authorization-status)
 
+-- the authorization of a challenge
 pub swept_owner_on : (m : ℕ) (T : Tables) (n : ℕ) → owner_on (swept m T) n ≡ option_map (swept_authorization m) (owner_on T n)
 swept_owner_on m T n = grind (arith, nat_tests, find-moved, swept_authorization-status)
 

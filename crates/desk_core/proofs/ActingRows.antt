@@ -76,6 +76,7 @@ order_after m B account wanted is reusable =
     stood : List OrderRow
     stood = map (moved_order e m S.authorizations (authorizations_after S e m)) S.orders
 
+-- it stands in the tables after its entry
 pub ordered_found : (m : ℕ) (B : Tables) (C : Counters) (account : ℕ) (wanted : List Wanted) → IsAt m B C → IsOrdered B →
     AreReusable (swept m B).authorizations wanted →
     (let T : Tables = effect m (swept m B) (ordered account wanted) in order_on T T.meta.counters.orders ≡ Some (next_order B.meta.policy C account wanted))
@@ -145,6 +146,7 @@ names_after m B account wanted is may =
     (made_named (swept m B) m account wanted (below_swept m first B.authorizations is.authorizations.1))
     (reused_named (swept m B) m account wanted wanted may)
 
+-- they are those that are wanted
 pub ordered_names : (m : ℕ) (B : Tables) (C : Counters) (account : ℕ) (wanted : List Wanted) → IsAt m B C → IsOrdered B →
     list_all (may_want_on (swept m B) account) wanted ≡ true →
     map (λ a. a.name) (listed_rows (effect m (swept m B) (ordered account wanted)) (next_order B.meta.policy C account wanted)) ≡ map wanted_name wanted

@@ -22,6 +22,7 @@ faultless F call at fits enough = search rules
 
 -- ---- numbers
 
+-- the counters of a legal history fit
 pub counters : (F : History) → Legal F → CountersFit (picture F).meta.counters
 counters F legal = counters_fit F legal.numbered (clock F)
 
@@ -35,9 +36,11 @@ pub fits_same : (F G : History) → nonces F ≡ nonces G ++ [] → accounts F �
     authorizations F ≡ authorizations G ++ [] → CountersFit (picture G).meta.counters → CountersFit (picture F).meta.counters
 fits_same F G n a o z h = search rules
 
+-- they do when a nonce was spent
 fits_spent : (F : History) (m n : ℕ) → CountersFit (picture F).meta.counters → CountersFit (picture (record { date = m; entry = spent n } ∷ F)).meta.counters
 fits_spent F m n h = fits_same (record { date = m; entry = spent n } ∷ F) F refl refl refl refl h
 
+-- a spent nonce adds none
 nonces_stay : (F : History) (m n : ℕ) → length (nonces (record { date = m; entry = spent n } ∷ F)) ≡ length (nonces F)
 nonces_stay F m n = omega (arith, length-append (nonces F) [])
 
@@ -46,7 +49,7 @@ pub fits_nonces : (F : History) (m n : ℕ) (r : List ℕ) → CountersFit (pict
     CountersFit (picture (record_all m (spent n ∷ issued r ∷ []) F)).meta.counters
 fits_nonces F m n r h lt = fits_issued (record { date = m; entry = spent n } ∷ F) m r (fits_spent F m n h) (omega (arith, nonces_stay F m n))
 
--- nor that it has spent them
+-- a verdict that spent the numbers of some counters spent those of equal ones, whatever their nonces
 pub spent_same : (C D : Counters) (v : Verdict) → C.accounts ≡ D.accounts → C.orders ≡ D.orders → C.authorizations ≡ D.authorizations
     → C.challenges ≡ D.challenges → NumbersSpent D v → NumbersSpent C v
 spent_same C D v h k l g e = search rules

@@ -30,6 +30,7 @@ is_full : (F : History) (call : Call) (es : List Entry) → call.at ≤ last_mom
     fault F call ≡ Some 26
 is_full F call es at is over = search rules
 
+-- a call with fewer random bytes than its entries take has the fault 25
 is_short : (F : History) (call : Call) (es : List Entry) → call.at ≤ last_moment → (decide F call).entries ≡ es
     → IsTrue (numbers_fit (record_all (moment_of call.at F) es F)) →
     length call.random < 16 * count_pieces es → fault F call ≡ Some 25
@@ -40,6 +41,7 @@ issue_faults : (F : History) (call : Call) (e : CoreFault) → Legal F → call.
     IsIssueFault (picture F) call.random e → IsFaultOf F call e
 issue_faults F call e h k l g = grind (arith, nat_tests, length-append, fits_issued)
 
+-- what a verdict records takes no nonce away
 nonces_grow : (G : History) (m : ℕ) (v : Verdict) → length (nonces G) ≤ length (nonces (record_all m (entries_of v) G))
 nonces_grow G m v = search rules
 

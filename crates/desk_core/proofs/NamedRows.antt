@@ -42,6 +42,7 @@ account_way T r n p t v own (by.challenge_read k a found) = there _ a found
 account_way T r n p t v own (by.challenge_answered k a found is waits) = there _ a found
 account_way T r n p t v own _ = tt
 
+-- by each way of a signed request
 request_way : (T : Tables) (r : List ℕ) (s : Signed) (t : Target) (v : Verdict) → OfRequest T r s t v → NamesRows T v
 request_way T r s t v (OfRequest.held u w key x is found valid way) = account_way T r x.number s.payload t v (by_number T key x found) way
 request_way T r s t v _ = tt
@@ -67,6 +68,6 @@ office_way T a v (way.account_revoked n x found valid) = there _ x found
 office_way T a v (way.key_shown n x found) = there _ x found
 office_way T a v _ = tt
 
--- each of them
+-- so what carries no nonce names rows that are there
 pub office_there : (T : Tables) (a : OfficeAsk) → NamesRows T (office_verdict T a)
 office_there T a = office_way T a (office_verdict T a) (office_judged T a)

@@ -7,7 +7,7 @@ use Rattle.desk_core.specs.SameRows.{SameRows}
 
 -- ---- what an entry does
 
--- so does what a verdict records
+-- rows that are the same but for nonces are so after what a verdict records
 pub verdict_same : (m : ℕ) (T U : Tables) (v : Verdict) → SameRows T U → SameRows (effects m T (entries_of v)) (effects m U (entries_of v))
 verdict_same m T U v h = grind arith
 

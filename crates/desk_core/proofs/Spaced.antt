@@ -24,6 +24,7 @@ account_way : (T : Tables) (r : List ℕ) (n : ℕ) (p : List ℕ) (t : Target) 
 account_way T r n p t v (OfAccount.ordered ids is few pass) = wanted_spaced T n (kept (names_in ids)) r
 account_way T r n p t v _ = tt
 
+-- by each way of a signed request
 request_way : (T : Tables) (r : List ℕ) (s : Signed) (t : Target) (v : Verdict) → OfRequest T r s t v → IsSpaced v
 request_way T r s t v (OfRequest.held u w key x is found valid way) = account_way T r x.number s.payload t v way
 request_way T r s t v _ = tt
@@ -45,6 +46,7 @@ office_way : (T : Tables) (a : OfficeAsk) (v : Verdict) → OfOffice T a v → I
 office_way T a v (OfOffice.declined b why) = tt
 office_way T a v _ = tt
 
+-- so each of them is
 office_quiet : (T : Tables) (a : OfficeAsk) → IsQuiet (office_verdict T a)
 office_quiet T a = office_way T a (office_verdict T a) (office_judged T a)
 

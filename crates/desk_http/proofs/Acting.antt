@@ -25,11 +25,12 @@ module _ {S C : Type 0} (v : Sight S C) (causes : Causes S) where
     responds_acts (request.Looks l) result old new r = inl (r.1)
     responds_acts (request.Refused reply) result old new r = inl (r.1)
 
+    -- so does the answer to what was asked
     answer_acts : (result : Result Reply DeskFault) (old new : DeskState S) → HasAnswer v causes at random None old new result
         → ActsOnce v old new
     answer_acts result old new a = responds_acts a.request result old new a.responds
 
-    -- it did not have its reply
+    -- a request did not have its reply
     fails_acts : (why : Unanswered) (old new : DeskState S) → Fails v causes at random None old new why → ActsOnce v old new
     fails_acts (cause.Desk why) old new f = answer_acts (Err why) old new f
     fails_acts cause.Reading old new f = inl f

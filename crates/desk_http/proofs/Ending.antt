@@ -37,6 +37,7 @@ module _ {S C : Type 0} (v : Sight S C) (causes : Causes S) (at : ℕ) (random :
   responds_ends : (q : Request) (result : Result Reply DeskFault) → Responds v causes at random old q result new → new.is_closed ≡ is_closed_after result
   responds_ends q result r = grind arith
 
+  -- so it is by the answer to what was asked
   answer_ends : (result : Result Reply DeskFault) → HasAnswer v causes at random None old new result → new.is_closed ≡ is_closed_after result
   answer_ends result a = responds_ends a.request result a.responds
 
@@ -50,6 +51,7 @@ look_ends : {S C : Type 0} (v : Sight S C) (hook : Shower S) (asked : Looked) (d
     (new : DeskState S) → new.is_closed ≡ is_closed_by_look done → EndsLook v hook asked done mid after (Ok served) → EndsBy (fault_of served.cause) new
 look_ends v hook asked done mid after served new flag ends = grind (arith, Ok, EndsBy, Err, Result, ends_if)
 
+-- by what was asked to be shown
 shown_ends : {S C : Type 0} (v : Sight S C) (hook : Shower S) (asked : Looked) (served : Served) (old new : DeskState S) → old.is_closed ≡ false
     → ShowsTo v hook asked None None old new (Ok served) → EndsBy (fault_of served.cause) new
 shown_ends v hook asked served old new opened h7 = grind (arith, look_ends, None)

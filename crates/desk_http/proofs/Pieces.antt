@@ -14,10 +14,11 @@ pub record HasCopied (first piece : List ℕ) (input left was is : Option (List 
   pub whole : first ++ bytes ≡ shown ++ piece
   pub written : Appends was is shown
 
+-- what was written before some bytes, and then some
 pub writes_more : (was mid is : Option (List ℕ)) (bytes : List ℕ) → Appends was mid bytes → WritesSome mid is → WritesSome was is
 writes_more was mid is bytes before it = (bytes ++ it.0, Appends-trans was mid is bytes it.0 before it.1)
 
--- what is so of a failed result
+-- what is so whatever the result is so of a failed one
 pub where_failed : {A E : Type 0} (r : Result A E) (P : Type 0) → P → OnErr r P
 where_failed r P p = grind (arith, Ok, Err)
 
@@ -51,13 +52,14 @@ copied_long first end shown last input left was mid is it ends written at_end = 
 
 -- ---- what stands behind the head
 
--- or it is longer than a piece, and so no text that is shorter
+-- what is longer than a text and the last line is no such text
 not_text : (piece bytes shown last text : List ℕ) → piece ++ bytes ≡ shown ++ last → length text + length last < length piece → shown ≢ text
 not_text piece bytes shown last text whole room same =
     let lengths : length (piece ++ bytes) ≡ length (shown ++ last) = ap length whole in
     let alike : length shown ≡ length text = ap length same in
     omega (arith, length-append piece bytes, length-append shown last, lengths, alike)
 
+-- what is longer than a text is copied as what is no text
 pub all_long : (last text piece first : List ℕ) (input mid left was is : Option (List ℕ)) → piece ≡ first → Consumes input mid first
     → length text + length last < length piece → CopiesLong piece last mid left was is → CopiesAll [] last text input left was is false
 all_long last text piece first input mid left was is same read room it = (

@@ -17,6 +17,7 @@ module _ {S C : Type 0} (v : Sight S C) (causes : Causes S) (old new : DeskState
     responds_late : (q : Request) (result : Result Reply _) → Responds v causes at random old q result new → new ≡ old
     responds_late q result r = grind arith
 
+    -- by the answer to what was asked
     answer_late : (result : Result Reply _) → HasAnswer v causes at random remaining old new result → new ≡ old
     answer_late result a = responds_late a.request result a.responds
 

@@ -8,6 +8,7 @@ use Rattle.desk_http.specs.{Showing.Shower, Showing.ShowsTo, declared.serving.Io
 use Rattle.desk_http.specs.Showing.{begun, headless}
 
 module _ {S C : Type 0} (v : Sight S C) (hook : Shower S) (asked : Looked) where
+  -- what was asked to be shown does so
   pub shows_acts : (before after : Option (List ℕ)) (old new : DeskState S) (served : Result Served IoFault) → ShowsTo v hook asked before after old new served
       → ActsOnce v old new
   shows_acts before after old new served (headless same failed) = inl same

@@ -1,5 +1,5 @@
 //! Calls over HTTP: a request in, its reply out; connections served one after the other; and a request to a desk that is served
-//! (RFC 9112). `app_commands` and `http_trials` stand on it.
+//! (RFC 9112). `app_tasks`, `app_commands` and `http_trials` stand on it.
 #![tactic(auto)]
 
 mod asking;

@@ -16,6 +16,7 @@ neither : (a b : Bool) → a ≡ false → b ≡ false → (a || b) ≡ false
 neither true b p q = absurd (cc p)
 neither false b p q = q
 
+-- a test whose opposite holds fails
 not_so : (a : Bool) → not a ≡ true → a ≡ false
 not_so true h = absurd (cc h)
 not_so false h = refl

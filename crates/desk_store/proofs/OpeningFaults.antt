@@ -44,14 +44,14 @@ pub refused_reading : (error : Error) (Fails : Error → Type 0) → IsOutOfMemo
 refused_reading error Fails (inl memory) other = absurd (let e = sym (ap cause_of memory) ∙ other in cc)
 refused_reading error Fails (inr fails) other = record { error = error; fails = fails; other = other }
 
--- where no book was made of rows, for want of none, it was for what is said of that
+-- rows of which no book was made, since none has them, are what is said of such rows
 pub none_has : {R : Type 0} (Other : Type 0) (made : Result R OpenFault)
     → IfErr made (λ why. (why ≡ Storage fault.Memory) ⊎ ((why ≡ NotADesk) × Other)) → made ≡ Err NotADesk → Other
 none_has Other (Ok book) why none = absurd cc
 none_has Other (Err fault) (inl memory) none = absurd (let e = memory in cc)
 none_has Other (Err fault) (inr no_book) none = no_book.1
 
--- neither do rows that no book has
+-- rows that no book has tell of no later format
 pub book_is_known : {R : Type 0} (Other : Type 0) (result : Result R OpenFault)
     → IfErr result (λ why. (why ≡ Storage fault.Memory) ⊎ ((why ≡ NotADesk) × Other))
     → result ≡ Err NewerFormat → ⊥
@@ -95,7 +95,7 @@ told_of_device cause.Other f told is = absurd (let e = sym told ∙ is in cc)
 pub opening_met : (old mid new : State) (e : Error) (f : OpenFault) → IsOfOpening (cause_of e) f → IsMet old mid e → Asks mid new → IsMetFault old new f
 opening_met old mid new e f told met asks is = met_on old mid new e asks met (of_device e (told_of_device (cause_of e) f told is))
 
--- behind a call that failed not
+-- behind a call that did not fail
 pub met_later : (old mid new : State) (f : OpenFault) → Asks old mid → IsMetFault mid new f → IsMetFault old new f
 met_later old mid new f asks met is =
     let more : MoreFaults mid.faults new.faults = met is in

@@ -9,7 +9,7 @@ use Rattle.desk_store.specs.{Opening.OpensKnown, declared.open_fault.OpenFault.O
 use Rattle.desk_store.proofs.{Books.whole_still, Failing.opened_behind, NothingWritten.desk_unchanged, Upgrading.first_unchanged}
 use Rattle.desk_store.proofs.EitherFormat.{asks_behind, back_behind, first_still, keys_behind, settled_behind, upgraded_behind}
 
--- it does and leaves what it would have done and left before that call
+-- what an opening does and leaves behind such a call, it does and leaves from before it
 pub opens_behind : {S R : Type 0} (g : Ghosts S) (old mid new : Held S) (result : Result R OpenFault) → Asks (state g old) (state g mid)
     → (HasCleanDisk (state g mid) → IsUnchanged (state g old) (state g mid)) → (state g new).in_transaction ≡ false → OpensKnown g mid new result
     → OpensKnown g old new result

@@ -42,6 +42,7 @@ pub open_told : {A : Type 0} (r : Result A Error) (old new : State) (Is : A → 
 open_told (Ok a) old new Is ok err told = ok.1
 open_told {A} (Err e) old new Is ok err told = error_open A old new e (err []) told
 
+-- where a result does not tell that the connection is open, it is silent
 pub silent_told : {A : Type 0} (r : Result A Error) (old new : State)
     → IfErr r (λ e. (params : Row) → IsNotRun old new (codes "ANSWER") params e) → tells_open r ≡ false → IsSilent old new
 silent_told (Ok a) old new err told = absurd (cc told)

@@ -1,5 +1,5 @@
-//! The tables of a desk over a connection of `sqlite`: made, opened, looked up and saved. It is the `Storage` that a desk in a file
-//! stands on; `desk_files` and `app_files` make and open it.
+//! The tables of a desk over a connection of `sqlite`: made, opened, looked up and saved. It is the `Storage` that a desk
+//! stands on, in a file or in memory; `desk_files` and `app_files` make and open it.
 #![tactic(auto)]
 
 mod faults;

@@ -35,6 +35,7 @@ Behind route.Order = Both route.Finalize route.Order
 Behind route.Finalize = Both route.Finalize route.Order
 Behind r = cond (is_numbered r) (Alone r) (option_map value_of (first desk_routes (prefix r)) ≡ Some r)
 
+-- route by route
 behind : (r : Route) → Behind r
 unfolding add_route scan seek param_step
 behind r = grind arith

@@ -41,7 +41,7 @@ pub ends_with_digit : (d : ℕ) (ds : List ℕ) → AllDigits 10 (d ∷ ds) → 
 ends_with_digit d [] h = let n : 47 ≢ d = λ q. no_digit_is_slash d h.0 (sym q) in grind (arith, nat_tests)
 ends_with_digit d (c ∷ cs) h = ends_with_digit c cs h.1
 
--- a suffix of a slash does not cut them, but what goes on with a slash
+-- a suffix of a slash does not cut digits
 cuts_no_digits : (d : ℕ) (ds : List ℕ) → AllDigits 10 (d ∷ ds) → cuts (segment (d ∷ ds)) (47 ∷ []) ≡ false
 cuts_no_digits d ds h =
     rw (segment_whole (d ∷ ds) h, one_less d ds, ends_with_digit d ds h) (by (ltb 1 (length (d ∷ ds))))

@@ -33,5 +33,6 @@ subproblems_plain (s ∷ rest) = subproblems_plain rest
 plain : (why : Refusal) (subproblems : List Subproblem) → is_document (shaped why subproblems) ≡ true
 plain why subproblems = grind (arith, nat_tests, subproblems_plain)
 
+-- the document of a problem is plain
 pub problem_plain : (p : Problem) → is_document (problem_document p) ≡ true
 problem_plain p = plain p.refusal p.subproblems

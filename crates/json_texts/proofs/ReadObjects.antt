@@ -16,6 +16,7 @@ use Rattle.json.specs.Find as json_find
 text_read : (j : json.Json) → is_text j ≡ true → of_json j ≡ Some (plain_value j)
 text_read j h = grind (arith, nat_tests)
 
+-- both of two tests
 both : (a b : Bool) → (a && b) ≡ true → (a ≡ true) × (b ≡ true)
 both a b h = grind (arith, nat_tests)
 
@@ -75,6 +76,7 @@ member_found {X} f found name j is = grind (arith, nat_tests, plain_get)
 object_viewed : {A : Type 0} (v : Vec (Bor (List ℕ) × TextValue A) A) → value_view (Object v) ≡ json.object (members_view v.items)
 object_viewed v = search (rules, the_lemmas)
 
+-- all members are texts where their views are
 all_texts : {A : Type 0} (ms : List (Bor (List ℕ) × TextValue A)) → list_all (λ m. is_text (value_view m.1)) ms ≡ are_texts (members_view ms)
 all_texts [] = refl
 all_texts (m ∷ ms) = ap (λ b. is_text (value_view m.1) && b) (all_texts ms)
@@ -84,6 +86,7 @@ pub texts_told : {A : Type 0} (v : Vec (Bor (List ℕ) × TextValue A) A)
     → list_all (λ m. is_text (value_view m.1)) v.items ≡ is_text_or_texts (value_view (Object v))
 texts_told v = all_texts v.items ∙ sym (ap is_text_or_texts (object_viewed v))
 
+-- all are shallow where their views are
 all_shallow : {A : Type 0} (ms : List (Bor (List ℕ) × TextValue A)) → list_all (λ m. is_text_or_texts (value_view m.1)) ms ≡ are_shallow (members_view ms)
 all_shallow [] = refl
 all_shallow (m ∷ ms) = ap (λ b. is_text_or_texts (value_view m.1) && b) (all_shallow ms)

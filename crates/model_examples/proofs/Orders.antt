@@ -13,9 +13,11 @@ use Rattle.model_examples.specs.{Accounts.with_fifth_nonce, Calls.zeros, Compute
 upper_case : name_of (codes "Example.ORG") ≡ Some example_org
 upper_case = plain_name _ refl
 
+-- a name in lower case
 lower_case : name_of (codes "example.org") ≡ Some example_org
 lower_case = plain_name _ refl
 
+-- a wildcard
 wildcard : name_of (codes "*.example.org") ≡ Some any_example_org
 wildcard = plain_name _ refl
 

@@ -37,7 +37,7 @@ new_challenge_answer c n h e m k = grind arith
 new_challenge_report : (c : Counts) (n : ℕ) → c.challenges < n → (e : Entry) (m : ℕ) → NamesGiven c e → reporting n e m ≡ None
 new_challenge_report c n h e m k = grind arith
 
--- and no other key
+-- an account of a number that was not given gets no other key
 pub new_account_key : (c : Counts) (n : ℕ) → c.accounts < n → (e : Entry) → NamesGiven c e → rekeying n e ≡ None
 new_account_key c n h e k = grind arith
 

@@ -1,4 +1,4 @@
--- The changes of a sweep and of each entry, and all that a call records: moves, one after the other, that make the tables after them.
+-- The changes of a sweep and of each entry: moves, one after the other, that make the tables after them.
 use Rattle.std.proofs.Common.{◌≡◌, ◌<◌, ℕ, ◌+◌, List, [], ◌∷◌, ◌++◌, map, filter, Some, None, refl, sym, ap, subst, true, cond, arith}
 use Rattle.std.specs.Prelude.{◌==◌, IfSome, find}
 use Rattle.desk_model.specs.Change.{accounts_put, applied, applied_one, authorizations_expired, authorizations_put, changes, nonces_gone, nonces_put, put}

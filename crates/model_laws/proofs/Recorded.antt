@@ -14,7 +14,7 @@ use Rattle.model_laws.proofs.{InTurn.changes_lead, InTurn.leads_then, InTurn.swe
 use Rattle.model_laws.specs.Ordered.{Ascends, Below, IsOrdered, IsTable}
 pub use Rattle.model_laws.proofs.{PutsDiffer.made_up, RowLists.below_filter, RowLists.below_map}
 
--- ---- changes of one table in a row
+-- ---- changes one after the other
 
 -- changes after changes
 pub applied-append : (cs ds : List Change) (T : Tables) → applied (cs ++ ds) T ≡ applied ds (applied cs T)

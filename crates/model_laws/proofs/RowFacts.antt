@@ -131,7 +131,7 @@ authorization_noted F e m t a each le =
     authorization_stated G each m m a
     ∙ (λ i. restated_authorization m (record (authorization_row G m a) { ended = ended i; challenges = challenges i }))
 
--- an authorization that the entry doesn't touch keeps its row
+-- where no challenge has the number, each has another
 has_none : (n : ℕ) (cs : List ChallengeRow) → list_any (λ c. n == c.number) cs ≡ false → EachOf (λ c. (n == c.number) ≡ false) cs
 has_none n [] h = tt
 has_none n (c ∷ cs) h = let p = or_parts (n == c.number) _ h in (p.0, has_none n cs p.1)

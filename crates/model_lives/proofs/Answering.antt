@@ -168,7 +168,7 @@ IsReplied k m S (moves (move.Answered n)) =
     × (moved_reply (restricted k (effect m S (answered n))) (move.Answered n) ≡ moved_reply (effect m S (answered n)) (move.Answered n))
 IsReplied k m S _ = ⊥
 
--- the owner and its account are kept
+-- a verdict on an answer, by an account: the authorization of the challenge and its account are kept
 account_way : (k : Kept) (m : ℕ) (S : Tables) (r : List ℕ) (n : ℕ) (p : List ℕ) (j : ℕ) (v : Verdict) → IsClosed k S → HoldersKept k S (answered j)
     → OwnersKept k S j → OfAccount S r n p (to.Chall j) v → IsReplied k m S v
 account_way k m S r n p j v closed holders owners (OfAccount.turned_away t why ss) = tt
@@ -176,18 +176,21 @@ account_way k m S r n p j v closed holders owners (OfAccount.challenge_read i a 
 account_way k m S r n p j v closed holders owners (OfAccount.challenge_answered i a found is waits) =
     ((holders, owners), client_challenge_shown k (effect m S (answered j)) j (owner_after k S m (answered j) j closed owners))
 
+-- a verdict on an answer, by a request
 request_way : (k : Kept) (m : ℕ) (S : Tables) (r : List ℕ) (s : Signed) (j : ℕ) (v : Verdict) → IsClosed k S → HoldersKept k S (answered j)
     → OwnersKept k S j → OfRequest S r s (to.Chall j) v → IsReplied k m S v
 request_way k m S r s j v closed holders owners (OfRequest.unheld t why) = tt
 request_way k m S r s j v closed holders owners (OfRequest.held t w key x is found valid way) =
     account_way k m S r x.number s.payload j v closed holders owners way
 
+-- so by each signed request
 signed_replied : (k : Kept) (m : ℕ) (S : Tables) (r : List ℕ) (s : Signed) (j : ℕ) → IsClosed k S → HoldersKept k S (answered j) → OwnersKept k S j →
     IsReplied k m S (signed_verdict S r (record s { target = to.Chall j }))
 signed_replied k m S r s j closed holders owners = request_way k m S r _ j _ closed holders owners (request_judged S r (record s { target = to.Chall j }))
 
 -- ---- the request
 
+-- such a verdict is carried out by the part as by the whole
 carried_answer : (k : Kept) (T : Tables) (m : ℕ) (v : Verdict) → IsClosed k T → IsReplied k m (swept m T) v → CarriesOutAs m T (restricted k T) v
 carried_answer k T m (refused why ss) closed h = carried_by k T m (refused why ss) (swept_part k T m closed) (λ index. refl)
 carried_answer k T m (key_taken account) closed h = carried_by k T m (key_taken account) (swept_part k T m closed) (λ index. refl)
@@ -198,10 +201,12 @@ carried_answer k T m (moves (move.Answered j)) closed h =
     (λ index. h.1)
 carried_answer k T m _ closed h = absurd h
 
+-- the part records the same of nonces
 nonces_same : (k : Kept) (T : Tables) (m : ℕ) → IsClosed k T → CoversSweep k T m → (n : ℕ) (fresh : List ℕ) →
     recorded_changes m (restricted k T) (spent n ∷ issued fresh ∷ []) ≡ recorded_changes m T (spent n ∷ issued fresh ∷ [])
 nonces_same k T m closed covers n fresh = search (rules, recorded_local, nonces_covered, swept_closed)
 
+-- and of all that the verdict records
 records_answer : (k : Kept) (T : Tables) (m : ℕ) (v : Verdict) → IsClosed k T → CoversSweep k T m → IsStated m (swept m T) → IsReplied k m (swept m T) v →
     (n : ℕ) (fresh : List ℕ) →
     recorded_changes m (restricted k T) (spent n ∷ issued fresh ∷ entries_of v) ≡ recorded_changes m T (spent n ∷ issued fresh ∷ entries_of v)
@@ -233,6 +238,7 @@ chall_judged k T m s j r closed kept =
     ap (λ P. signed_verdict P r (record s { target = to.Chall j })) (swept_part k T m closed)
     ∙ signed_same k (swept m T) r (record s { target = to.Chall j }) (swept_names k T m (sent s (to.Chall j)) kept)
 
+-- so the part answers such a request as the whole
 passes_chall : (b : Bool) (k : Kept) (T : Tables) (m : ℕ) (s : Signed) (j : ℕ) → IsStated m (swept m T) → IsClosed k T →
     KeepsRestated b k T m (sent s (to.Chall j)) → KeepsNamed k T (sent s (to.Chall j)) → PassesAs m (record s { target = to.Chall j }) T (restricted k T)
 passes_chall b k T m s j stated closed restated kept =

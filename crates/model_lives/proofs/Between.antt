@@ -26,21 +26,26 @@ use Rattle.model_lives.proofs.{Grown.grown_closed, Grown.grown_part, Lists.any_g
 
 -- ---- what a call touches in a part it touches in the whole
 
+-- what passes in a part passes in the whole, by a wider test
 any_part : {X : Type 0} (p q kept : X → Bool) (xs : List X) → ((x : X) → p x ≡ true → q x ≡ true) → list_any p (filter kept xs) ≡ true → list_any q xs ≡ true
 any_part p q kept [] f h = h
 any_part p q kept (x ∷ xs) f h = grind (arith, (any_part p q kept xs f))
 
+-- an order of an account that is named
 own_order_wider : (k : Kept) (T : Tables) (a : Ask) (o : OrderRow) → is_own_order (restricted k T) a o ≡ true → is_own_order T a o ≡ true
 own_order_wider k T a o h = grind (arith, any_part)
 
+-- an authorization of such an account, where it may end
 own_authorization_wider : (k : Kept) (T : Tables) (a : Ask) (r : AuthorizationRow) → is_own_authorization (restricted k T) a r ≡ true
     → is_own_authorization T a r ≡ true
 own_authorization_wider k T a r h = grind (arith, any_part)
 
+-- an authorization for the names that are asked for
 asked_wider : (k : Kept) (T : Tables) (a : Ask) (r : AuthorizationRow) → is_asked_authorization (restricted k T) a r ≡ true → is_asked_authorization T a r
     ≡ true
 asked_wider k T a r h = grind (arith, any_part)
 
+-- an authorization that is named, of an account that may end, or past its moment
 first_wider : (k : Kept) (T : Tables) (m : ℕ) (a : Ask) (r : AuthorizationRow) → is_first_authorization (restricted k T) m a r ≡ true
     → is_first_authorization T m a r ≡ true
 first_wider k T m a r h = grind (arith, own_authorization_wider)
@@ -51,6 +56,7 @@ any_beside : {X : Type 0} (p q beside kept : X → Bool) (xs : List X) → ((x :
 any_beside p q beside kept [] f h = h
 any_beside p q beside kept (x ∷ xs) f h = grind (arith, (any_beside p q beside kept xs f))
 
+-- a touched order
 order_wider : (k : Kept) (T : Tables) (m : ℕ) (a : Ask) (o : OrderRow) → is_touched_order (restricted k T) m a o ≡ true → is_touched_order T m a o ≡ true
 order_wider k T m a o h =
     grind (
@@ -60,6 +66,7 @@ order_wider k T m a o h =
           (λ r. k.authorizations r.number) T.authorizations (first_wider k T m a)),
     )
 
+-- a touched authorization
 authorization_wider : (k : Kept) (T : Tables) (m : ℕ) (a : Ask) (r : AuthorizationRow)
     → is_touched_authorization (restricted k T) m a r ≡ true → is_touched_authorization T m a r ≡ true
 authorization_wider k T m a r h =
@@ -71,6 +78,7 @@ authorization_wider k T m a r h =
           (λ o. k.orders o.number) T.orders (order_wider k T m a)),
     )
 
+-- a touched account
 account_wider : (k : Kept) (T : Tables) (m : ℕ) (a : Ask) (x : AccountRow) → is_touched_account (restricted k T) m a x ≡ true
     → is_touched_account T m a x ≡ true
 account_wider k T m a x h =
@@ -128,6 +136,7 @@ same_touched k T m a h holds =
           (each_filtered _ (is_touched_order T m a) T.orders holds.orders))) i;
     }
 
+-- a part of a part keeps what is listed
 listed_part : (k j : Kept) (T : Tables) → KeepsListed k T → KeepsListed k (restricted j T)
 listed_part k j T h = filtered_each _ (λ (o : OrderRow). j.orders o.number) T.orders (each _ _ T.orders (λ o f kept. f) h)
 
@@ -137,6 +146,7 @@ listed_part k j T h = filtered_each _ (λ (o : OrderRow). j.orders o.number) T.o
 abbrev pub bare : Tables → Tables
 bare T = record T { orders = [] }
 
+-- tables without orders stand by number where all do
 pub bare_ordered : (T : Tables) → IsOrdered T → IsOrdered (bare T)
 bare_ordered T h = record { nonces = h.nonces; accounts = h.accounts; authorizations = h.authorizations; orders = (tt, tt) }
 
@@ -144,6 +154,7 @@ bare_ordered T h = record { nonces = h.nonces; accounts = h.accounts; authorizat
 abbrev pub open_kept : Kept → Tables → Kept
 open_kept k T = grown k (bare T)
 
+-- a part without orders, swept, is the part of the swept tables without orders
 pub swept_bare : (k : Kept) (T : Tables) (m : ℕ) → IsOrdered T → swept m (restricted k (bare T)) ≡ restricted (open_kept k T) (swept m (bare T))
 swept_bare k T m h = ap (swept m) (sym (grown_part k (bare T))) ∙ swept_part (open_kept k T) (bare T) m (grown_closed k (bare T) (bare_ordered T h) tt)
 
@@ -175,16 +186,20 @@ holders_of : (k : Kept) (T : Tables) (m : ℕ) (a : Ask) (v : Verdict) → Keeps
 holders_of k T m a (moves move) holds h = each _ _ (swept m T).authorizations (λ r f yes. open_wider k T m a holds r.account (f yes)) h.0.holders
 holders_of k T m a _ holds h = tt
 
+-- the touched rows, with the numbers that no row has, are ready for the ask
 touched_ready : (T : Tables) (m : ℕ) (a : Ask) → IsOrdered T → IsReady (grown (kept_by T m a) T) T m a
 touched_ready T m a h = ready_by (kept_by T m a) T m a h (touched_listed T m a h) (touched_kept T m a h)
 
+-- where the touched rows are kept, the accounts of a signed request are
 signed_holders : (k : Kept) (T : Tables) (m : ℕ) (s : Signed) → IsOrdered T → Keeps k (touched_rows T m (ask.Signed s)) → HoldersFor k T m (ask.Signed s)
 signed_holders k T m s h holds r = search (rules, holders_of, signed_answered, touched_ready)
 
+-- and those of another ask that lists no work
 office_holders : (k : Kept) (T : Tables) (m : ℕ) (a : OfficeAsk) → IsNoWork a → IsOrdered T → Keeps k (touched_rows T m (ask.Office a)) →
     HoldersFor k T m (ask.Office a)
 office_holders k T m a none h holds = search (rules, holders_of, office_answered, touched_ready)
 
+-- after an entry the part has the authorizations of the whole
 entry_stands : (k : Kept) (T : Tables) (m : ℕ) (e : Entry) → IsOrdered T → HoldersKept (open_kept k T) (swept m T) e →
     (effect m (swept m (restricted k T)) e).authorizations ≡ filter (λ r. (open_kept k T).authorizations r.number) (effect m (swept m T) e).authorizations
 entry_stands k T m e h holders =
@@ -192,6 +207,7 @@ entry_stands k T m e h holders =
     ap (λ (E : Tables). (effect m E e).authorizations) (swept_bare k T m h)
     ∙ authorizations_part (open_kept k T) (swept m (bare T)) m e closed.new_authorizations holders
 
+-- and after the entries of a verdict
 authorizations_stand : (k : Kept) (T : Tables) (m : ℕ) (v : Verdict) → IsOrdered T → HoldersOf (open_kept k T) (swept m T) v →
     (effects m (swept m (restricted k T)) (entries_of v)).authorizations
     ≡ filter (λ r. (open_kept k T).authorizations r.number) (effects m (swept m T) (entries_of v)).authorizations
@@ -203,12 +219,15 @@ authorizations_stand k T m _ h holders = ap (λ (E : Tables). E.authorizations) 
 
 -- the ends of orders
 
+-- a swept order ends when it did
 swept_end : (m : ℕ) (rows : List AuthorizationRow) (o : OrderRow) → (swept_order m rows o).expires ≡ o.expires
 swept_end m rows o = one_kept (λ (r : OrderRow). r.expires) (falls m rows o) _ o refl
 
+-- and so does a moved one
 moved_end : (e : Entry) (m : ℕ) (before after : List AuthorizationRow) (o : OrderRow) → (moved_order e m before after o).expires ≡ o.expires
 moved_end e m before after o = one_kept (λ (r : OrderRow). r.expires) (touches_order e before o) _ o refl
 
+-- an order ends by then
 abbrev EndBy : ℕ → OrderRow → Type 0
 EndBy n o = o.expires ≤ n
 
@@ -226,6 +245,7 @@ made_ends : (n m : ℕ) (rows others : List AuthorizationRow) (xs : List _) → 
 made_ends n m rows others [] h = tt
 made_ends n m rows others (o ∷ os) h = (h.0, made_ends n m rows others os h.1)
 
+-- where the orders of the whole end by then after an entry, those of the part do
 entry_ends : (k : Kept) (T : Tables) (m : ℕ) (e : Entry) (n : ℕ) → EachOf (EndBy n) (effect m (swept m T) e).orders
     → EachOf (EndBy n) (effect m (swept m (restricted k T)) e).orders
 entry_ends k T m e n h =
@@ -247,6 +267,7 @@ entry_ends k T m e n h =
     (ordered_by e m S.meta.policy (S.meta.counters.authorizations + 1) (S.meta.counters.orders + 1))
     (each_after (EndBy n) (map (moved_order e m S.authorizations (effect m S e).authorizations) S.orders) _ h))
 
+-- and after the entries of a verdict
 orders_end : (k : Kept) (T : Tables) (m : ℕ) (v : Verdict) (n : ℕ) → EachOf (EndBy n) (effects m (swept m T) (entries_of v)).orders →
     EachOf (EndBy n) (effects m (swept m (restricted k T)) (entries_of v)).orders
 orders_end k T m (opens key contacts) n h = entry_ends k T m (opened key contacts) n h
@@ -271,18 +292,22 @@ carries_by k T m v h holders same =
       shows = same;
     }
 
+-- a part between the whole and rows that carry out as it does, does so
 carries_between : (k : Kept) (T Q : Tables) (m : ℕ) (v : Verdict) → IsOrdered T → HoldersOf (open_kept k T) (swept m T) v → CarriesOutAs m T Q v
     → CarriesOutAs m (restricted k T) Q v → CarriesOutAs m T (restricted k T) v
 carries_between k T Q m v h holders low high = carries_by k T m v h holders (λ index. sym (high.shows index) ∙ low.shows index)
 
+-- it issues a nonce as the whole
 issues_between : (k : Kept) (T Q : Tables) (m : ℕ) → IssuesAs m T Q → IssuesAs m (restricted k T) Q → IssuesAs m T (restricted k T)
 issues_between k T Q m low high = record { records = λ r. sym (high.records r) ∙ low.records r }
 
+-- it answers what carries no nonce as the whole
 settles_between : (k : Kept) (T Q : Tables) (m : ℕ) (a : OfficeAsk) → IsOrdered T → HoldersFor k T m (ask.Office a) → SettlesAs m a T Q
     → SettlesAs m a (restricted k T) Q
     → SettlesAs m a T (restricted k T)
 settles_between k T Q m a h holders low high = grind (arith, carries_between)
 
+-- and a signed request
 passes_between : (k : Kept) (T Q : Tables) (m : ℕ) (s : Signed) → IsOrdered T → HoldersFor k T m (ask.Signed s) → PassesAs m s T Q
     → PassesAs m s (restricted k T) Q
     → PassesAs m s T (restricted k T)
@@ -300,6 +325,7 @@ passes_between k T Q m s h holders low high =
           ∙ low.records r n fresh;
     }
 
+-- so it answers each ask as the whole
 answers_between : (k : Kept) (T Q : Tables) (m : ℕ) (a : Ask) → IsOrdered T → HoldersFor k T m a → AnswersAs m a T Q → AnswersAs m a (restricted k T) Q
     → AnswersAs m a T (restricted k T)
 answers_between k T Q m a h l g e = grind (arith, issues_between, passes_between, settles_between)
@@ -310,6 +336,7 @@ answers_between k T Q m a h l g e = grind (arith, issues_between, passes_between
 pub none_listed : (T : Tables) → KeepsListed no_rows T
 none_listed T = each_all _ T.orders (λ o kept. cc)
 
+-- it does where the touched rows answer as the whole
 rows_answer : (k : Kept) (T : Tables) (m : ℕ) (a : Ask) → IsOrdered T → HoldersFor k T m a → Keeps k (touched_rows T m a) → touched_at T m a
     ≡ touched_rows T m a →
     touched_at (restricted k T) m a ≡ touched_rows (restricted k T) m a → AnswersAs m a T (restricted k T)
@@ -321,6 +348,7 @@ rows_answer k T m a h holders holds here there =
     (answers_at (kept_by T m a) (restricted k T) m a (restricted_ordered k T h) (listed_part (kept_by T m a) k T listed)
     (subst (Keeps (kept_by T m a)) (sym there) (keeps_wider k T m a h))))
 
+-- which they do, also for the lists of work
 part_answers : (k : Kept) (T : Tables) (m : ℕ) (a : Ask) → IsOrdered T → Keeps k (touched_at T m a) → AnswersAs m a T (restricted k T)
 part_answers k T m (ask.Office office.Directory) h holds =
     let none : Keeps no_rows (only_meta T) = record { nonces = tt; accounts = tt; authorizations = tt; orders = tt } in

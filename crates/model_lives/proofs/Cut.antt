@@ -17,6 +17,7 @@ use Rattle.model_lives.proofs.Lists.{each_member, filter_nothing, filter_same, s
 
 -- ---- a test on rows, and on their numbers
 
+-- some row of the number passes
 abbrev pub at_number : {X : Type 0} → (X → ℕ) → (X → Bool) → List X → ℕ → Bool
 at_number number test xs n = list_any (λ y. (number y == n) && test y) xs
 
@@ -34,12 +35,14 @@ numbered_from : {X : Type 0} (number : X → ℕ) (test : X → Bool) (n : ℕ) 
 numbered_from number test n [] h = tt
 numbered_from number test n (x ∷ xs) h = grind (arith, none_above, each, (numbered_from number test (number x + 1) xs h.1))
 
+-- where numbers ascend, the one row of the number does
 pub numbered : {X : Type 0} (number : X → ℕ) (test : X → Bool) (n : ℕ) (xs : List X) → Ascends number n xs →
     EachOf (λ x. at_number number test xs (number x) ≡ test x) xs
 numbered number test n xs h = each _ _ xs (λ x p. p.0) (numbered_from number test n xs h)
 
 -- ---- the numbers of the rows that are touched
 
+-- those of the rows that a call touches
 abbrev pub kept_by : Tables → ℕ → Ask → Kept
 kept_by T m a =
     record {
@@ -52,6 +55,7 @@ kept_by T m a =
       orders = at_number (λ (o : OrderRow). o.number) (is_touched_order T m a) T.orders;
     }
 
+-- the numbers of authorizations are those of the touched ones
 pub same_authorizations : (T : Tables) (m : ℕ) (a : Ask) → IsOrdered T →
     EachOf (λ r. (kept_by T m a).authorizations r.number ≡ is_touched_authorization T m a r) T.authorizations
 same_authorizations T m a h =
@@ -59,6 +63,7 @@ same_authorizations T m a h =
     (each_both _ _ T.authorizations (numbered (λ (r : AuthorizationRow). r.number) (is_first_authorization T m a) 1 T.authorizations h.authorizations.0)
     (numbered (λ (r : AuthorizationRow). r.number) (is_asked_authorization T a) 1 T.authorizations h.authorizations.0))
 
+-- so the touched rows are the part of these numbers
 pub touched_cut : (T : Tables) (m : ℕ) (a : Ask) → IsOrdered T → touched_rows T m a ≡ restricted (kept_by T m a) T
 touched_cut T m a h =
     λ i. record {
@@ -73,6 +78,7 @@ touched_cut T m a h =
           (numbered (λ (o : OrderRow). o.number) (is_touched_order T m a) 1 T.orders h.orders.0)) i;
     }
 
+-- which keeps what is listed
 pub touched_listed : (T : Tables) (m : ℕ) (a : Ask) → IsOrdered T → KeepsListed (kept_by T m a) T
 touched_listed T m a h =
     each _ _ T.orders (λ o p kept.
@@ -82,6 +88,7 @@ touched_listed T m a h =
     (each_member (numbers_of o.listed)))
     (each_both _ _ T.orders (numbered (λ (o : OrderRow). o.number) (is_touched_order T m a) 1 T.orders h.orders.0) (each_member T.orders))
 
+-- and keeps the touched rows
 pub touched_kept : (T : Tables) (m : ℕ) (a : Ask) → IsOrdered T → Keeps (kept_by T m a) (touched_rows T m a)
 touched_kept T m a h = subst (Keeps (kept_by T m a)) (sym (touched_cut T m a h)) (restricted_kept (kept_by T m a) T)
 
@@ -89,6 +96,7 @@ touched_kept T m a h = subst (Keeps (kept_by T m a)) (sym (touched_cut T m a h))
 abbrev pub no_rows : Kept
 no_rows = record { nonces = λ n. false; accounts = λ n. false; authorizations = λ n. false; orders = λ n. false }
 
+-- the desk's own row alone is the part of no numbers
 pub no_part : (T : Tables) → only_meta T ≡ restricted no_rows T
 no_part T =
     λ i. record {
@@ -99,6 +107,7 @@ no_part T =
       orders = filter_nothing T.orders i;
     }
 
+-- so the touched rows are a part for the call
 pub touched_part : (T : Tables) (call : Call) → IsOrdered T → IsPartFor call T (touched T call)
 touched_part T call h = by call.ask refl
   where

@@ -21,12 +21,15 @@ use Rattle.model_lives.proofs.{Verdicts.nonce_same, Verdicts.office_same, Verdic
 
 -- ---- rows by number
 
+-- a part of a table stands by number
 table_part : {X : Type 0} (number : X → ℕ) (last : ℕ) (p : X → Bool) (xs : List X) → IsTable number last xs → IsTable number last (filter p xs)
 table_part number last p xs h = (ascends_filter number p 1 xs h.0, below_filter number p (last + 1) xs h.1)
 
+-- so do all tables of a part
 pub restricted_ordered : (k : Kept) (T : Tables) → IsOrdered T → IsOrdered (restricted k T)
 restricted_ordered k T h = search (rules, table_part)
 
+-- and a part for a call
 pub parts_ordered : (T P : Tables) (call : Call) → IsOrdered T → IsPartFor call T P → IsOrdered P
 parts_ordered T P call h part = subst IsOrdered (sym part.cut) (restricted_ordered part.kept T h)
 
@@ -58,6 +61,7 @@ later_covered k m S n r e closed again covers = search (
   fresh_kept,
 )
 
+-- the entries of a verdict are covered behind those of nonces
 nonce_covered : (k : Kept) (m : ℕ) (S : Tables) (n : ℕ) (r : List ℕ) (v : Verdict) → IsClosed k S → IsAnswered k m S v →
     CoversAll k m S (spent n ∷ issued r ∷ entries_of v)
 nonce_covered k m S n r (opens key contacts) closed h = later_covered k m S n r (opened key contacts) closed tt h.0
@@ -84,6 +88,7 @@ carried_by k T m v after same = record {
   shows = λ index. ap (λ E. verdict_reply index E v) after ∙ same index;
 }
 
+-- a verdict that is answered by the part is carried out by it as by the whole
 carried_out : (k : Kept) (T : Tables) (m : ℕ) (v : Verdict) → IsClosed k T → IsAnswered k m (swept m T) v → CarriesOutAs m T (restricted k T) v
 carried_out k T m v closed h = grind (
   arith,
@@ -96,9 +101,11 @@ carried_out k T m v closed h = grind (
 
 -- ---- each ask
 
+-- a nonce is issued
 pub issues_as : (k : Kept) (T : Tables) (m : ℕ) (a : Ask) → IsReady k T m a → IssuesAs m T (restricted k T)
 issues_as k T m a ready = search (rules, swept_closed, recorded_local, keeps_falling, covers_issued)
 
+-- what carries no nonce is settled
 pub settles_as : (k : Kept) (T : Tables) (m : ℕ) (a : OfficeAsk) → IsNoWork a → IsReady k T m (ask.Office a) → SettlesAs m a T (restricted k T)
 settles_as k T m a none ready = search (
   rules,
@@ -113,6 +120,7 @@ settles_as k T m a none ready = search (
   swept_closed,
 )
 
+-- a signed request passes
 pub passes_as : (k : Kept) (T : Tables) (m : ℕ) (s : Signed) → IsReady k T m (ask.Signed s) → PassesAs m s T (restricted k T)
 passes_as k T m s ready = search (
   rules,
@@ -137,6 +145,7 @@ directory_as k T m closed = record { judged = refl; verdict = carried_out k T m 
 abbrev pub all_rows : Kept
 all_rows = record { nonces = λ n. true; accounts = λ n. true; authorizations = λ n. true; orders = λ n. true }
 
+-- a part that keeps all rows is the whole
 restricted_all : (k : Kept) (T : Tables) → Keeps k T → restricted k T ≡ T
 restricted_all k T h = grind (arith, filter_all)
 
@@ -150,9 +159,11 @@ restricted_kept k T =
       orders = each_passes (λ o. k.orders o.number) T.orders;
     }
 
+-- all rows are kept by what keeps all
 keeps_all : (T : Tables) → Keeps all_rows T
 keeps_all T = grind (arith, each_all)
 
+-- the whole settles an ask as itself
 whole_settles : (T : Tables) (m : ℕ) (a : OfficeAsk) → SettlesAs m a T T
 whole_settles T m a =
     let v : Verdict = office_verdict (swept m T) a in
@@ -171,11 +182,13 @@ whole_settles T m a =
       records = refl;
     }
 
+-- so a part that keeps all rows settles a list of work
 pub work_as : (k : Kept) (T : Tables) (m : ℕ) (a : OfficeAsk) → Keeps k T → SettlesAs m a T (restricted k T)
 work_as k T m a h = subst (SettlesAs m a T) (sym (restricted_all k T h)) (whole_settles T m a)
 
 -- ---- a part for a call
 
+-- a part that keeps what is touched is ready, with the numbers that no row has
 pub ready_by : (k : Kept) (T : Tables) (m : ℕ) (a : Ask) → IsOrdered T → KeepsListed k T → Keeps k (touched_rows T m a) → IsReady (grown k T) T m a
 ready_by k T m a ordered listed h = search (rules, keeps_touched, grown_closed, keeps_restated, keeps_named, keeps_rows)
 
@@ -185,6 +198,7 @@ rows_settle : (k : Kept) (T : Tables) (m : ℕ) (a : OfficeAsk) → IsNoWork a �
 rows_settle k T m a none ordered listed h =
     subst (SettlesAs m a T) (grown_part k T) (settles_as (grown k T) T m a none (ready_by k T m (ask.Office a) ordered listed h))
 
+-- so it answers as the whole
 pub answers_at : (k : Kept) (T : Tables) (m : ℕ) (a : Ask) → IsOrdered T → KeepsListed k T → Keeps k (touched_at T m a) → AnswersAs m a T (restricted k T)
 answers_at k T m (ask.NewNonce head) ordered listed h =
     subst (IssuesAs m T) (grown_part k T) (issues_as (grown k T) T m (ask.NewNonce head) (ready_by k T m (ask.NewNonce head) ordered listed h))

@@ -22,6 +22,7 @@ use Rattle.desk_model.specs.declared.call.Ask.TheVariants as ask
 
 -- ---- by their numbers
 
+-- the numbers of the rows that are needed
 abbrev pub minimal_kept : Tables → ℕ → Ask → Kept
 minimal_kept T m a =
     record {
@@ -34,6 +35,7 @@ minimal_kept T m a =
       orders = at_number (λ (o : OrderRow). o.number) (is_needed_order T m a) T.orders;
     }
 
+-- the numbers of authorizations are those of the needed ones
 minimal_authorizations : (T : Tables) (m : ℕ) (a : Ask) → IsOrdered T →
     EachOf (λ r. (minimal_kept T m a).authorizations r.number ≡ is_needed_authorization T m a r) T.authorizations
 minimal_authorizations T m a h =
@@ -42,6 +44,7 @@ minimal_authorizations T m a h =
     (numbered (λ (r : AuthorizationRow). r.number) (λ r. is_moved_authorization T a r || is_wanted_authorization T a r) 1 T.authorizations
     h.authorizations.0))
 
+-- so the few rows are the part of these numbers
 pub minimal_cut : (T : Tables) (m : ℕ) (a : Ask) → IsOrdered T → minimal_rows T m a ≡ restricted (minimal_kept T m a) T
 minimal_cut T m a h =
     λ i. record {
@@ -55,6 +58,7 @@ minimal_cut T m a h =
           (each _ _ T.orders (λ o e. sym e) (numbered (λ (o : OrderRow). o.number) (is_needed_order T m a) 1 T.orders h.orders.0)) i;
     }
 
+-- which keeps them
 pub minimal_hold : (T : Tables) (m : ℕ) (a : Ask) → IsOrdered T → Keeps (minimal_kept T m a) (minimal_rows T m a)
 minimal_hold T m a h = subst (Keeps (minimal_kept T m a)) (sym (minimal_cut T m a h)) (restricted_kept (minimal_kept T m a) T)
 
@@ -79,10 +83,12 @@ minimal_listed T m a h all =
 abbrev pub KeepsHolders : Kept → Tables → Ask → Type 0
 KeepsHolders k T a = EachOf (λ r. is_moved_authorization T a r ≡ true → k.accounts r.account ≡ true) T.authorizations
 
+-- the accounts that are needed
 minimal_accounts : (k : Kept) (T : Tables) (m : ℕ) (a : Ask) → Keeps k (minimal_rows T m a) →
     EachOf (λ x. is_needed_account T a x ≡ true → (grown k T).accounts x.number ≡ true) T.accounts
 minimal_accounts k T m a h = each _ _ T.accounts (λ x f so. or_left _ _ (f so)) (each_filtered _ (is_needed_account T a) T.accounts h.accounts)
 
+-- the accounts of authorizations that are named or end, where these are needed
 pub minimal_holders : (k : Kept) (T : Tables) (m : ℕ) (a : Ask) → needs_holders a ≡ true → Keeps k (minimal_rows T m a) → KeepsHolders (grown k T) T a
 minimal_holders k T m a needed h =
     each _ _ T.authorizations
@@ -91,6 +97,7 @@ minimal_holders k T m a needed h =
     (member (λ y. is_moved_authorization T a y && (y.account == x.number)) (and_from _ _ so same))))) (minimal_accounts k T m a h))
     r.account (same_number r.account)) (each_member T.authorizations)
 
+-- with these, all whose statuses may change
 pub minimal_restated : (k : Kept) (T : Tables) (m : ℕ) (a : Ask) → KeepsHolders (grown k T) T a → Keeps k (minimal_rows T m a) →
     KeepsRestated (changes_statuses a) (grown k T) T m a
 minimal_restated k T m a holders h = grind (arith, each, each_filtered)
@@ -100,6 +107,7 @@ wider_holder : (T : Tables) (a : Ask) (n : ℕ) → list_any (λ x. is_named_acc
     list_any (λ x. is_needed_account T a x && (n == x.number)) T.accounts ≡ true
 wider_holder T a n h = grind (arith, any_wider)
 
+-- what the ask names
 minimal_named : (k : Kept) (T : Tables) (m : ℕ) (a : Ask) → Keeps k (minimal_rows T m a) → KeepsRows (grown k T) T a
 minimal_named k T m a h =
     record {
@@ -123,6 +131,7 @@ minimal_named k T m a h =
 
 -- ---- they are enough
 
+-- with the accounts, a part that keeps the few rows is ready
 ready_with : (k : Kept) (T : Tables) (m : ℕ) (a : Ask) → IsOrdered T → KeepsListed k T → answers_challenge a ≡ false → KeepsHolders (grown k T) T a →
     Keeps k (minimal_rows T m a) → IsReady (grown k T) T m a
 ready_with k T m a h listed none holders holds =
@@ -133,12 +142,14 @@ ready_with k T m a h listed none holders holds =
       named = keeps_named k T a (minimal_named k T m a holds);
     }
 
+-- so the few rows are
 minimal_ready : (T : Tables) (m : ℕ) (a : Ask) → IsOrdered T → needs_listed a ≡ true → needs_holders a ≡ true → answers_challenge a ≡ false →
     IsReady (grown (minimal_kept T m a) T) T m a
 minimal_ready T m a h all needed none =
     let k : Kept = minimal_kept T m a in
     ready_with k T m a h (minimal_listed T m a h all) none (minimal_holders k T m a needed (minimal_hold T m a h)) (minimal_hold T m a h)
 
+-- a nonce is issued by them
 pub minimal_issue : (T : Tables) (m : ℕ) (a : Ask) → IsOrdered T → needs_listed a ≡ true → needs_holders a ≡ true → answers_challenge a ≡ false →
     IssuesAs m T (restricted (minimal_kept T m a) T)
 minimal_issue T m a h all needed none =
@@ -181,15 +192,18 @@ minimal_without_accounts T m a none h of no_account =
           (numbered (λ (x : AccountRow). x.number) (is_needed_account T (ask.Office a)) 1 T.accounts h.accounts.0)))) i;
     }
 
+-- where accounts are needed, what carries no nonce is settled by them
 minimal_held : (T : Tables) (m : ℕ) (a : OfficeAsk) → IsNoWork a → IsOrdered T → needs_holders (ask.Office a) ≡ true →
     SettlesAs m a T (restricted (minimal_kept T m (ask.Office a)) T)
 minimal_held T m a none h needed =
     let k : Kept = minimal_kept T m (ask.Office a) in
     subst (SettlesAs m a T) (grown_part k T) (settles_as (grown k T) T m a none (minimal_ready T m (ask.Office a) h refl needed refl))
 
+-- so what carries no nonce is settled by them
 pub minimal_settle : (T : Tables) (m : ℕ) (a : OfficeAsk) → IsNoWork a → IsOrdered T → SettlesAs m a T (restricted (minimal_kept T m (ask.Office a)) T)
 minimal_settle T m a h k = grind (arith, minimal_without_accounts, minimal_held)
 
+-- a signed request passes by them
 pub minimal_pass : (T : Tables) (m : ℕ) (s : Signed) → IsOrdered T → IsStatedFor (ask.Signed s) m T →
     PassesAs m s T (restricted (minimal_kept T m (ask.Signed s)) T)
 minimal_pass T m s h stated =

@@ -18,13 +18,16 @@ pub any_filter : {X : Type 0} (test p : X → Bool) (xs : List X) → list_any p
 any_filter test p [] = refl
 any_filter test p (x ∷ xs) = grind (arith, (any_filter test p xs))
 
+-- the rows that pass are found
 pub found_filter : {X : Type 0} {number : X → ℕ} {test : X → Bool} {xs : List X} → Ascends number 1 xs → IsFound number test xs (filter test xs)
 found_filter h = grind (arith, filtered_each, each, ascends_found, any_filter)
 
+-- nothing passes a test that never holds
 any_false : {X : Type 0} (xs : List X) → false ≡ list_any (λ x. false) xs
 any_false [] = refl
 any_false (x ∷ xs) = any_false xs
 
+-- so nothing is found by it
 pub found_none : {X : Type 0} (number : X → ℕ) (xs : List X) → IsFound number (λ x. false) xs []
 found_none number xs = record { from = tt; tests = λ p. any_false xs }
 
@@ -81,6 +84,7 @@ found_if {number = number} false {xs = xs} h = found_none number xs
 
 -- ---- the table that they make
 
+-- what passes of rows above a number is above it
 above_filter : {X : Type 0} (number : X → ℕ) (p : X → Bool) (n : ℕ) (xs : List X) → Above number n xs → Above number n (filter p xs)
 above_filter number p n xs h = filtered_each _ p xs (each _ _ xs (λ x f yes. f) h)
 

@@ -90,6 +90,7 @@ certificate_way : (T : Tables) (r : List ℕ) (n : ℕ) (p : List ℕ) (k : ℕ)
 unfolding given
 certificate_way T r n p k o found = grind (arith, turned_away, certificate_read)
 
+-- each target comes to its verdict by one of the ways
 target_judged : (T : Tables) (r : List ℕ) (n : ℕ) (p : List ℕ) (t : Target) → OfAccount T r n p t (target_verdict T r n p t)
 unfolding given check choose unless_fault
 target_judged T r n p to.NewAccount = grind (arith, turned_away, known)
@@ -109,6 +110,7 @@ open_way : (T : Tables) (r : List ℕ) (s : Signed) (key : List ℕ) → s.key �
 unfolding given check unless_fault
 open_way T r s key is none o asked = grind (arith, unheld, opened)
 
+-- each signed request does
 pub request_judged : (T : Tables) (r : List ℕ) (s : Signed) → OfRequest T r s s.target (signed_verdict T r s)
 unfolding check
 request_judged T r s = grind (arith, unheld, held, open_way, target_judged)
@@ -139,6 +141,7 @@ pub data OfOffice (T : Tables) : OfficeAsk → Verdict → Type 0 where
       → OfOffice T (office.RevokeAccount n) (moves (move.AccountEnded n revoked))
   key_shown : (n : ℕ) (x : AccountRow) → account_on T n ≡ Some x → OfOffice T (office.KeyOf n) (answers (show.Key n))
 
+-- each other ask does
 pub office_judged : (T : Tables) (a : OfficeAsk) → OfOffice T a (office_verdict T a)
 unfolding given check choose
 office_judged T office.Directory = directory_listed

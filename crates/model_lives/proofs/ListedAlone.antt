@@ -34,6 +34,7 @@ use Rattle.desk_model.specs.declared.verdict.Shows.TheVariants as show
 order_whole : (l : ℕ → Bool) (o : OrderRow) → l o.number ≡ true → with_orders l o ≡ o
 order_whole l o h = λ i. whole_if (h i) o
 
+-- and so are orders
 pub orders_whole : (l : ℕ → Bool) (os : List OrderRow) → EachOf (λ o. l o.number ≡ true) os → map (with_orders l) os ≡ os
 orders_whole l [] h = refl
 orders_whole l (o ∷ os) h = λ i. order_whole l o h.0 i ∷ orders_whole l os h.1 i
@@ -64,6 +65,7 @@ module _ (l : ℕ → Bool) (m : ℕ) (P : Tables) (kept : KeepsFallingWhole l m
   bare_same : bare (swept m some) ≡ bare (swept m P)
   bare_same = ap (λ rows. record (bare (swept m P)) { authorizations = map (swept_authorization m) rows }) (whole_authorizations P.authorizations)
 
+  -- so the nonces of a request are recorded the same
   nonces_same : (n : ℕ) (r : List ℕ) → recorded_changes m some (spent n ∷ issued r ∷ []) ≡ recorded_changes m P (spent n ∷ issued r ∷ [])
   nonces_same n r =
       λ i. sweep_same i ++ (same i ++ PutMeta (effects m (swept m P) (spent n ∷ issued r ∷ [])).meta ∷ [])
@@ -71,6 +73,7 @@ module _ (l : ℕ → Bool) (m : ℕ) (P : Tables) (kept : KeepsFallingWhole l m
       same : all_changes m (swept m some) (spent n ∷ issued r ∷ []) ≡ all_changes m (swept m P) (spent n ∷ issued r ∷ [])
       same = nonces_bare m (swept m some) n r ∙ ap (λ T. all_changes m T (spent n ∷ issued r ∷ [])) bare_same ∙ sym (nonces_bare m (swept m P) n r)
 
+  -- and a nonce that is issued
   issued_same : (r : List ℕ) → recorded_changes m some (issued r ∷ []) ≡ recorded_changes m P (issued r ∷ [])
   issued_same r =
       λ i. sweep_same i ++ (same i ++ PutMeta (effects m (swept m P) (issued r ∷ [])).meta ∷ [])
@@ -107,23 +110,28 @@ IsList (key_taken account) = Unit {0}
 IsList (answers (show.List (listing.Orders n))) = Unit {0}
 IsList _ = ⊥
 
+-- by each way of an account
 account_way : (S : Tables) (r : List ℕ) (n : ℕ) (p : List ℕ) (j : ℕ) (v : Verdict) → OfAccount S r n p (to.Orders j) v → IsList v
 account_way S r n p j v (OfAccount.turned_away t why ss) = tt
 account_way S r n p j v (OfAccount.orders_listed k) = tt
 
+-- by each way of a signed request
 request_way : (S : Tables) (r : List ℕ) (s : Signed) (j : ℕ) (v : Verdict) → OfRequest S r s (to.Orders j) v → IsList v
 request_way S r s j v (OfRequest.unheld t why) = tt
 request_way S r s j v (OfRequest.held t w key x is found valid way) = account_way S r x.number s.payload j v way
 
+-- so the verdict on the request is one of these
 lists : (S : Tables) (r : List ℕ) (s : Signed) (j : ℕ) → IsList (signed_verdict S r (record s { target = to.Orders j }))
 lists S r s j = request_way S r _ j _ (request_judged S r (record s { target = to.Orders j }))
 
 -- ---- the request
 
+-- such a verdict is carried out the same by the summaries
 carried_list : (T P : Tables) (m : ℕ) (l : ℕ → Bool) (v : Verdict) → KeepsFallingWhole l m P → IsList v → CarriesOutAs m T P v →
     CarriesOutAs m T (thin all_challenges l P) v
 carried_list T P m l v h k g = grind (arith, carries_thin, swept_thin, orders_document_thin)
 
+-- and records the same
 list_records : (l : ℕ → Bool) (m : ℕ) (P : Tables) (v : Verdict) → KeepsFallingWhole l m P → IsList v → (n : ℕ) (fresh : List ℕ) →
     recorded_changes m (thin all_challenges l P) (spent n ∷ issued fresh ∷ entries_of v) ≡ recorded_changes m P (spent n ∷ issued fresh ∷ entries_of v)
 list_records l m P (refused why ss) kept is n fresh = nonces_same l m P kept n fresh
@@ -153,6 +161,7 @@ needed_in_whole T m a = at_number (λ (o : OrderRow). o.number) (is_whole_order 
 abbrev pub with_summaries : Tables → ℕ → Ask → Thinning
 with_summaries T m a = record { rows = minimal_kept T m a; challenges = all_challenges; whole = needed_in_whole T m a }
 
+-- of the orders that are there these are the ones needed whole
 pub needed_same : (T : Tables) (m : ℕ) (a : Ask) → IsOrdered T → EachOf (λ o. needed_in_whole T m a o.number ≡ is_whole_order T m a o) T.orders
 needed_same T m a h = numbered (λ (o : OrderRow). o.number) (is_whole_order T m a) 1 T.orders h.orders.0
 

@@ -11,6 +11,7 @@ use Rattle.model_laws.proofs.Basics.{each}
 pub or_cases : {A : Type 0} (a b : Bool) → (a || b) ≡ true → (a ≡ true → A) → (b ≡ true → A) → A
 or_cases a b h k l = grind arith
 
+-- a number is itself
 pub same_number : (n : ℕ) → (n == n) ≡ true
 same_number n = eq-eqb n n refl
 

@@ -28,34 +28,43 @@ use Rattle.desk_model.specs.declared.status.OrderStatus.TheVariants as order
 
 -- ---- tests on lists
 
+-- some item of some list passes where one of all of them does
 pub any_flat : {X Y : Type 0} (p : Y → Bool) (f : X → List Y) (xs : List X) → list_any p (flat_map f xs) ≡ list_any (λ x. list_any p (f x)) xs
 any_flat p f [] = refl
 any_flat p f (x ∷ xs) = list_any-append p (f x) (flat_map f xs) ∙ ap (λ b. list_any p (f x) || b) (any_flat p f xs)
 
+-- a test behind each item's, which knows nothing of the items, stands before all
 pub any_beside : {X : Type 0} (p : X → Bool) (b : Bool) (xs : List X) → list_any (λ x. p x && b) xs ≡ (b && list_any p xs)
 any_beside p b [] = grind arith
 any_beside p b (x ∷ xs) = grind (arith, (any_beside p b xs))
 
 -- ---- what an ask names
 
+-- a serial that the ask carries
 carried : (a : Ask) (n : ℕ) → list_any (λ k. n == k) (serials a) ≡ carries a n
 carried a n = grind arith
 
+-- a key that it has
 keyed : (a : Ask) (text : List ℕ) → list_any (λ k. bytes_eq text k) (keys a) ≡ has_key a text
 keyed a text = grind arith
 
+-- a key that it gives an account
 new_keyed : (a : Ask) (text : List ℕ) → list_any (λ k. bytes_eq text k) (new_keys a) ≡ has_new_key a text
 new_keyed a text = grind arith
 
+-- an account that it names
 account_listed : (a : Ask) (n : ℕ) → list_any (λ k. n == k) (account_numbers a) ≡ names_account a n
 account_listed a n = grind arith
 
+-- an order
 order_listed : (a : Ask) (n : ℕ) → list_any (λ k. n == k) (order_numbers a) ≡ names_order a n
 order_listed a n = grind arith
 
+-- an authorization
 authorization_listed : (a : Ask) (n : ℕ) → list_any (λ k. n == k) (authorization_numbers a) ≡ names_authorization a n
 authorization_listed a n = grind arith
 
+-- a challenge, by its authorization
 challenge_listed : (a : Ask) (r : AuthorizationRow) → list_any (λ c. has_row c r) (challenge_numbers a) ≡ names_owner a r
 challenge_listed a r = grind arith
 
@@ -97,23 +106,29 @@ listing_found T ordered j =
 abbrev pub of_nonce : Nonce → ℕ
 of_nonce x = x.serial
 
+-- of an account
 abbrev pub of_account : AccountRow → ℕ
 of_account x = x.number
 
+-- of an authorization
 abbrev pub of_authorization : AuthorizationRow → ℕ
 of_authorization r = r.number
 
+-- of an order
 abbrev pub of_order : OrderRow → ℕ
 of_order o = o.number
 
+-- a nonce was issued more than a life ago where its life is over
 past_life : (m life : ℕ) (x : Nonce) → nat_lt x.issued (m - life) ≡ not (nat_le m (x.issued + life))
 past_life m life x = grind arith
 
+-- nonces that the ask carries, or whose life is over
 pub nonces_found : (T : Tables) (m : ℕ) (a : Ask) → IsOrdered T → IsFound of_nonce (is_touched_nonce T m a) T.nonces (found_nonces T m a)
 nonces_found T m a h =
     found_alike (found_both (found_by (λ k. found_filter h.nonces.0) (serials a)) (found_filter h.nonces.0))
     (λ x i. carried a x.serial i || past_life m T.meta.policy.nonce_life x i)
 
+-- accounts that the ask names
 pub accounts_named : (T : Tables) (a : Ask) → IsOrdered T → IsFound of_account (is_named_account a) T.accounts (named_accounts T a)
 accounts_named T a h =
     found_alike (found_both (keyed_by (keys a)) (found_both (keyed_by (new_keys a)) (found_by (λ k. found_filter h.accounts.0) (account_numbers a))))
@@ -122,6 +137,7 @@ accounts_named T a h =
     keyed_by : (texts : List (List ℕ)) → IsFound of_account (λ x. list_any (λ k. bytes_eq x.key k) texts) T.accounts (flat_map (accounts_with_key T) texts)
     keyed_by = found_by (λ k. found_filter h.accounts.0)
 
+-- each of them once
 pub accounts_once_named : (T : Tables) (a : Ask) → IsOrdered T → IsFound of_account (is_named_account a) T.accounts (accounts_once (named_accounts T a))
 accounts_once_named T a h = found_once h.accounts.0 (accounts_named T a h)
 
@@ -129,16 +145,20 @@ accounts_once_named T a h = found_once h.accounts.0 (accounts_named T a h)
 pub account_at : (T : Tables) → IsOrdered T → (n : ℕ) → IsFound of_account (λ x. n == x.number) T.accounts (accounts_numbered T n)
 account_at T h n = found_alike (found_filter h.accounts.0) (λ x. eq_turn x.number n)
 
+-- orders of some numbers
 orders_at : (T : Tables) → IsOrdered T → (ns : List ℕ) → IsFound of_order (λ o. list_any (λ k. o.number == k) ns) T.orders (flat_map (orders_numbered T) ns)
 orders_at T h = found_by (λ k. found_filter h.orders.0)
 
+-- authorizations of some numbers
 pub authorizations_at : (T : Tables) → IsOrdered T → (ns : List ℕ) → IsFound of_authorization
     (λ r. list_any (λ k. r.number == k) ns) T.authorizations (flat_map (authorizations_numbered T) ns)
 authorizations_at T h = found_by (λ k. found_filter h.authorizations.0)
 
+-- orders that the ask names
 pub orders_named : (T : Tables) (a : Ask) → IsOrdered T → IsFound of_order (is_named_order a) T.orders (named_orders T a)
 orders_named T a h = found_alike (orders_at T h (order_numbers a)) (λ o. order_listed a o.number)
 
+-- authorizations that it names, or of which it names a challenge
 pub authorizations_named : (T : Tables) (a : Ask) → IsOrdered T → IsFound of_authorization (is_named_authorization a) T.authorizations
     (named_authorizations T a)
 authorizations_named T a h =
@@ -146,9 +166,11 @@ authorizations_named T a h =
     (found_by (λ c. found_same (authorizations_at T h (owners_of T c)) (owner_found T h c)) (challenge_numbers a)))
     (λ r i. authorization_listed a r.number i || challenge_listed a r i)
 
+-- orders of the accounts that are named, where these are asked for
 orders_own : (T : Tables) (a : Ask) → IsOrdered T → IsFound of_order (is_own_order T a) T.orders (own_orders T a)
 orders_own T a h = found_if (asks_orders a) (found_beside (λ x. found_filter h.orders.0) (accounts_once_named T a h))
 
+-- authorizations of these accounts, where an account may end
 authorizations_own : (T : Tables) (a : Ask) → IsOrdered T → IsFound of_authorization (is_own_authorization T a) T.authorizations (own_authorizations T a)
 authorizations_own T a h = found_if (asks_authorizations a) (found_beside (λ x. found_filter h.authorizations.0) (accounts_once_named T a h))
 
@@ -184,9 +206,11 @@ asked_found T test rows h is (Some names) =
     (λ r. any_under (list_any (same_name r.name) names) (λ x. r.account == x.number) rows
     ∙ ap (λ b. list_any (same_name r.name) names && b) (is.tests (λ x. r.account == x.number)))
 
+-- authorizations of these accounts for the names that are asked for
 authorizations_asked : (T : Tables) (a : Ask) → IsOrdered T → IsFound of_authorization (is_asked_authorization T a) T.authorizations (asked_authorizations T a)
 authorizations_asked T a h = asked_found T (is_named_account a) (accounts_once (named_accounts T a)) h (accounts_once_named T a h) (asked_names a)
 
+-- orders that are not over, past their moments
 pub orders_over : (T : Tables) (m : ℕ) → IsOrdered T → IsFound of_order (is_past_order m) T.orders (past_orders T m)
 orders_over T m h =
     found_alike (found_both (one order.Pending) (found_both (one order.Ready) (one order.Processing))) (λ o. by o.status (nat_lt o.expires m))
@@ -203,6 +227,7 @@ orders_over T m h =
         ≡ (is_live_order s && b)
     by k b = grind arith
 
+-- authorizations that are pending or valid, past their moments
 pub authorizations_over : (T : Tables) (m : ℕ) → IsOrdered T → IsFound of_authorization (is_overdue m) T.authorizations (past_authorizations T m)
 authorizations_over T m h =
     found_alike (found_both (found_filter h.authorizations.0) (found_filter h.authorizations.0)) (λ r. by r.status (nat_lt r.expires m))
@@ -212,6 +237,7 @@ authorizations_over T m h =
     by authz.Pending b = or-false b
     by _ b = refl
 
+-- authorizations that are named, of an account that may end, or past their moments
 authorizations_first : (T : Tables) (m : ℕ) (a : Ask) → IsOrdered T
     → IsFound of_authorization (is_first_authorization T m a) T.authorizations (first_authorizations T m a)
 authorizations_first T m a h = search (rules, found_both, authorizations_named, authorizations_own, authorizations_over)
@@ -223,11 +249,13 @@ pub orders_listed : (T : Tables) (test : AuthorizationRow → Bool) (rows : List
 orders_listed T test rows h is =
     found_beside (λ (r : AuthorizationRow). found_same (orders_at T h (orders_listing T r.number)) (listing_found T h r.number)) is
 
+-- orders that are touched
 orders_found : (T : Tables) (m : ℕ) (a : Ask) → IsOrdered T → IsFound of_order (is_touched_order T m a) T.orders (found_orders T m a)
 orders_found T m a h =
     found_both (found_both (orders_named T a h) (found_both (orders_own T a h) (orders_over T m h)))
     (orders_listed T (is_first_authorization T m a) _ h (found_once h.authorizations.0 (authorizations_first T m a h)))
 
+-- each of them once
 orders_once_found : (T : Tables) (m : ℕ) (a : Ask) → IsOrdered T → IsFound of_order (is_touched_order T m a) T.orders (orders_once (found_orders T m a))
 orders_once_found T m a h = found_once h.orders.0 (orders_found T m a h)
 
@@ -238,14 +266,17 @@ authorizations_listed T test rows h is =
     found_beside (λ (o : OrderRow). found_alike (authorizations_at T h (numbers_of o.listed))
     (λ r. list_any-same _ _ (numbers_of o.listed) (λ n. eq_turn r.number n))) is
 
+-- authorizations that are touched
 authorizations_found : (T : Tables) (m : ℕ) (a : Ask) → IsOrdered T
     → IsFound of_authorization (is_touched_authorization T m a) T.authorizations (found_authorizations T m a)
 authorizations_found T m a h = search (rules, found_both, authorizations_first, authorizations_listed, orders_once_found, authorizations_asked)
 
+-- each of them once
 authorizations_once_found : (T : Tables) (m : ℕ) (a : Ask) → IsOrdered T
     → IsFound of_authorization (is_touched_authorization T m a) T.authorizations (authorizations_once (found_authorizations T m a))
 authorizations_once_found T m a h = search (rules, found_once, authorizations_found)
 
+-- accounts that are touched
 accounts_found : (T : Tables) (m : ℕ) (a : Ask) → IsOrdered T → IsFound of_account (is_touched_account T m a) T.accounts (found_accounts T m a)
 accounts_found T m a h =
     found_both (accounts_named T a h) (found_both (found_beside (λ (o : OrderRow). account_at T h o.account) (orders_once_found T m a h))
@@ -253,9 +284,11 @@ accounts_found T m a h =
 
 -- ---- as tables
 
+-- the rows that are loaded are those that are touched
 rows_loaded : (T : Tables) (m : ℕ) (a : Ask) → IsOrdered T → loaded_rows T m a ≡ touched_rows T m a
 rows_loaded T m a h = grind (arith, found_table, nonces_found, accounts_found, authorizations_found, orders_found)
 
+-- so it is at the moment of a call
 pub loaded_touched : (T : Tables) (call : Call) → IsOrdered T → loaded T call ≡ touched T call
 loaded_touched T call h = by call.ask
   where

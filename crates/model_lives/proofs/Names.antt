@@ -99,7 +99,7 @@ different-kept (n ∷ ns) = rw (any-filter_not (same_name n) (kept ns)) (differe
 
 -- ---- tokens
 
--- they are these names
+-- what some names want has these names
 names-wanted : (T : Tables) (account : ℕ) (ns : List Name) (r : List ℕ) → map wanted_name (wanted T account ns r) ≡ ns
 names-wanted T account [] r = refl
 names-wanted T account (n ∷ ns) r = λ i. name (serving_on T account n) i ∷ names-wanted T account ns (left_by (serving_on T account n) n r) i

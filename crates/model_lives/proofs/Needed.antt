@@ -16,6 +16,7 @@ use Rattle.model_lives.proofs.{Grown.new_kept, Grown.same_kept, Lists.turned, Tr
 use Rattle.model_lives.proofs.{Lists.filter_nothing, Lists.filtered_each, ListedAlone.needed_same, Thin.whole_authorizations, TrimmedVerdicts.IsNoList}
 use Rattle.model_lives.proofs.{ListedAlone.needed_in_whole, ListedAlone.with_summaries, TrimmedVerdicts.KeepsWhole, TrimmedVerdicts.answers_trimmed}
 
+-- the number of an authorization
 abbrev number : AuthorizationRow → ℕ
 number r = r.number
 
@@ -27,6 +28,7 @@ needed_whole T m a = with_others number T.authorizations (at_number number (is_w
 abbrev pub needed : Tables → ℕ → Ask → Thinning
 needed T m a = record { rows = minimal_kept T m a; challenges = those (needed_whole T m a); whole = needed_in_whole T m a }
 
+-- the numbers of authorizations in whole are those of the ones that are needed so
 whole_same : (T : Tables) (m : ℕ) (a : Ask) → IsOrdered T → EachOf (λ r. needed_whole T m a r.number ≡ is_whole_authorization T m a r) T.authorizations
 whole_same T m a h =
     each _ _ T.authorizations (λ r e. e.0 ∙ e.1)
@@ -35,6 +37,7 @@ whole_same T m a h =
 
 -- ---- the cut
 
+-- the rows as they are needed are cut from the tables
 pub needed_cut : (T : Tables) (m : ℕ) (a : Ask) → IsOrdered T → needed_rows T m a ≡ thinned (needed T m a) T
 needed_cut T m a h = start ∙ ap (thin (those (needed_whole T m a)) (needed_in_whole T m a)) (minimal_cut T m a h)
   where
@@ -77,13 +80,16 @@ module _ (T : Tables) (m : ℕ) (a : Ask) (h : IsOrdered T) where
       (filtered_each P (λ (r : AuthorizationRow). (minimal_kept T m a).authorizations r.number) T.authorizations
       (each _ _ T.authorizations (λ r so kept. so) each_one))
 
+  -- what passes a test is in whole, where it is needed so
   whole_each : (test : AuthorizationRow → Bool) → ((r : AuthorizationRow) → test r ≡ true → is_whole_authorization T m a r ≡ true) →
       AreWhole (needed_whole T m a) test T.authorizations
   whole_each test wide = each _ _ T.authorizations (λ r e so. e ∙ wide r so) (whole_same T m a h)
 
+  -- an authorization that is named, or of an account that ends, is needed in whole
   moved_whole : (r : AuthorizationRow) → is_moved_authorization T a r ≡ true → is_whole_authorization T m a r ≡ true
   moved_whole r so = or_right (is_restated_authorization T m a r) _ (or_left _ _ so)
 
+  -- so what the ask names, and what may end, is in whole
   kept_whole : KeepsWhole (needed_whole T m a) rows a
   kept_whole =
       record {

@@ -22,9 +22,11 @@ pub record IsReady (k : Kept) (T : Tables) (m : ℕ) (a : Ask) : Type 0 where
 pub swept_named : (a : Ask) (m : ℕ) (r : AuthorizationRow) → names_owner a (swept_authorization m r) ≡ names_owner a r
 swept_named a m r = grind arith
 
+-- a swept authorization keeps its name
 swept_name : (m : ℕ) (r : AuthorizationRow) → (swept_authorization m r).name ≡ r.name
 swept_name m r = one_kept (λ (a : AuthorizationRow). a.name) (is_overdue m r) _ r refl
 
+-- a swept order keeps its account
 swept_order_account : (m : ℕ) (rows : List AuthorizationRow) (o : OrderRow) → (swept_order m rows o).account ≡ o.account
 swept_order_account m rows o = one_kept (λ (r : OrderRow). r.account) (falls m rows o) _ o refl
 
@@ -34,9 +36,11 @@ swept_names k T m a h = search (rules, each-map, each, swept_number, swept_named
 
 -- ---- what is asked of a verdict: its entry touches kept rows alone, a new order uses again what is kept, and the part shows what the whole shows
 
+-- an entry touches kept rows alone, and the reply is the same
 abbrev pub IsCarried : Kept → ℕ → Tables → Entry → (Tables → Reply) → Type 0
 IsCarried k m S e reply = Covers k S e × (reply (restricted k (effect m S e)) ≡ reply (effect m S e))
 
+-- what is asked of each verdict
 abbrev pub IsAnswered : Kept → ℕ → Tables → Verdict → Type 0
 IsAnswered k m S (refused why subproblems) = Unit {0}
 IsAnswered k m S (key_taken account) = Unit {0}

@@ -89,6 +89,7 @@ open_sound r T s key q formed is none asked pass =
       };
     }
 
+-- by each way of a signed request
 request_way : (r : List ℕ) (T : Tables) (s : Signed) (t : Target) (v : Verdict) → IsOrdered T → IsFormedSigned s → OfRequest T r s t v → IsSound r T v
 request_way r T s t v in_order formed (OfRequest.unheld u why) = record { records = tt }
 request_way r T s t v in_order formed (OfRequest.opened key q is none asked pass) = open_sound r T s key q formed is none asked pass
@@ -101,6 +102,7 @@ signed_sound r T s in_order formed = request_way r T s s.target (signed_verdict 
 
 -- ---- the other asks
 
+-- by each way of what carries no nonce
 office_way : (r : List ℕ) (T : Tables) (a : OfficeAsk) (v : Verdict) → IsFormedOfficeAsk a → way T a v → IsSound r T v
 office_way r T a v formed (way.reported n finding x c outcome found there waits) = move_sound _ tt tt (rw (found, there) waits)
 office_way r T a v formed (way.certified n bytes o found low high waits) = move_sound _ tt tt (rw found (and_from _ _ waits (and_from _ _ low high)))
@@ -115,10 +117,10 @@ office_sound r T a formed = office_way r T a (office_verdict T a) formed (office
 
 -- ---- nonces
 
--- and so in any form
+-- an open nonce that a call carries, in whatever form, stands in the tables
 carried_serial : (T : Tables) (o : Option NonceText) (serial : ℕ) → open_nonce_in T o ≡ Some serial → is_some (nonce_on T serial) ≡ true
 carried_serial T o serial h = grind arith
 
--- an open nonce stands in the tables
+-- an open nonce that a text spells stands in the tables
 pub open_serial : (T : Tables) (text : Option (List ℕ)) (serial : ℕ) → open_nonce T text ≡ Some serial → is_some (nonce_on T serial) ≡ true
 open_serial T text serial h = carried_serial T (option_and_then nonce_in text) serial h

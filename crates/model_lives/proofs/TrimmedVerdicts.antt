@@ -68,6 +68,7 @@ ActsOnWhole w S _ = Unit {0}
 
 -- ---- look-ups
 
+-- the authorization of a challenge, where it is in whole
 owner_trimmed : (w : ℕ → Bool) (S : Tables) (n : ℕ) → AreWhole w (has_row n) S.authorizations → owner_on (trimmed w S) n ≡ owner_on S n
 owner_trimmed w S n h =
     find_changed (has_row n) (with_challenges (those w)) S.authorizations
@@ -77,22 +78,27 @@ owner_trimmed w S n h =
 found_trimmed : (w : ℕ → Bool) (S : Tables) (n : ℕ) → authorization_on (trimmed w S) n ≡ option_map (with_challenges (those w)) (authorization_on S n)
 found_trimmed w S n = found_thin (those w) n S.authorizations
 
+-- an authorization that is in whole
 authorization_trimmed : (w : ℕ → Bool) (S : Tables) (n : ℕ) → w n ≡ true → authorization_on (trimmed w S) n ≡ authorization_on S n
 authorization_trimmed w S n h = grind (arith, found_trimmed, row_whole, found_passes)
 
+-- an order
 order_trimmed : (w : ℕ → Bool) (S : Tables) (n : ℕ) → order_on (trimmed w S) n ≡ order_on S n
 order_trimmed w S n = ap (find (λ o. o.number == n)) (whole_orders S.orders)
 
+-- the authorization that serves a name, in whole or not
 serving_trimmed : (w : ℕ → Bool) (S : Tables) (n : ℕ) (name : Name) → serving_on (trimmed w S) n name ≡ option_map (with_challenges (those w)) (serving_on S n
     name)
 serving_trimmed w S n name = find-map (serves n name (order_end S)) (with_challenges (those w)) S.authorizations
 
 -- ---- the verdict
 
+-- what the names of an order want
 wanted_trimmed : (w : ℕ → Bool) (S : Tables) (n : ℕ) (names : List Name) (random : List ℕ) → wanted (trimmed w S) n names random ≡ wanted S n names random
 wanted_trimmed w S n [] random = refl
 wanted_trimmed w S n (name ∷ names) random = grind (arith, serving_trimmed)
 
+-- a new order
 new_order_trimmed : (w : ℕ → Bool) (S : Tables) (random : List ℕ) (n : ℕ) (ids : List Identifier) →
     new_order_verdict (trimmed w S) random n ids ≡ new_order_verdict S random n ids
 new_order_trimmed w S random n ids = ap (check (has_length 1 most_names ids) refusal.Malformed) (by (subproblems ids))
@@ -110,6 +116,7 @@ judged_trimmed : (w : ℕ → Bool) (S : Tables) (n : ℕ) (p : List ℕ) (j : �
 unfolding given
 judged_trimmed w S n p j = grind (arith, found_trimmed)
 
+-- a request of an account, by its target
 target_trimmed : (w : ℕ → Bool) (S : Tables) (r : List ℕ) (n : ℕ) (s : Signed) (t : Target) → KeepsWhole w S (sent s t) →
     target_verdict (trimmed w S) r n s.payload t ≡ target_verdict S r n s.payload t
 target_trimmed w S r n s to.NewOrder h = λ i. given (new_order s.payload) refusal.Malformed (λ ids. new_order_trimmed w S r n ids i)
@@ -120,20 +127,24 @@ target_trimmed w S r n s (to.Authz j) h = judged_trimmed w S n s.payload j
 target_trimmed w S r n s (to.Chall j) h = own_same _ n _ _ _ (owner_trimmed w S j h.owner)
 target_trimmed w S r n s _ h = refl
 
+-- by the account with its key
 key_trimmed : (w : ℕ → Bool) (S : Tables) (r key : List ℕ) (s : Signed) (t : Target) → KeepsWhole w S (sent s t) → (o : Option AccountRow) →
     key_verdict (trimmed w S) r key s.payload t o ≡ key_verdict S r key s.payload t o
 key_trimmed w S r key s t h None = refl
 key_trimmed w S r key s t h (Some x) = ap (check (is_valid_account x.status) refusal.Unauthorized) (target_trimmed w S r x.number s t h)
 
+-- a signed request
 pub signed_trimmed : (w : ℕ → Bool) (S : Tables) (r : List ℕ) (s : Signed) → KeepsWhole w S (ask.Signed s) → signed_verdict (trimmed w S) r s
     ≡ signed_verdict S r s
 signed_trimmed w S r s h = grind (arith, (λ (key : List ℕ). key_trimmed w S r key s s.target h (account_with_key S key)))
 
+-- an authorization that the operator revokes
 revoked_trimmed : (w : ℕ → Bool) (S : Tables) (n : ℕ) →
     given (authorization_on (trimmed w S) n) refusal.NotFound (revoke_authorization n) ≡ given (authorization_on S n) refusal.NotFound (revoke_authorization n)
 unfolding given
 revoked_trimmed w S n = grind (arith, found_trimmed)
 
+-- what carries no nonce
 pub office_trimmed : (w : ℕ → Bool) (S : Tables) (a : OfficeAsk) → KeepsWhole w S (ask.Office a) → office_verdict (trimmed w S) a ≡ office_verdict S a
 office_trimmed w S (office.Report n finding) h = grind (arith, owner_trimmed)
 office_trimmed w S (office.Certify n bytes) h = ap (λ x. given x refusal.NotFound (certify_verdict n bytes)) (order_trimmed w S n)
@@ -148,6 +159,7 @@ order_by_trimmed : (w : ℕ → Bool) (E : Tables) (n : ℕ) (f : OrderRow → D
     shown (λ o. f o (order_document (trimmed w E) o)) (order_on (trimmed w E) n) ≡ shown (λ o. f o (order_document E o)) (order_on E n)
 order_by_trimmed w E n f = search (rules, order_trimmed, rows_thin)
 
+-- what shows rows in whole shows the same
 reply_trimmed : (w : ℕ → Bool) (E : Tables) (what : Shows) → shows_whole w E what → reply_of (trimmed w E) what ≡ reply_of E what
 reply_trimmed w E (show.List (listing.Orders n)) h = grind (arith, whole_orders)
 reply_trimmed w E (show.List listing.ChallengeWork) h = absurd h
@@ -159,6 +171,7 @@ reply_trimmed w E (show.Challenge n) h = ap (shown (challenge_in E n)) (owner_tr
 reply_trimmed w E (show.ClientChallenge n) h = ap (shown (client_challenge_in E n)) (owner_trimmed w E n h)
 reply_trimmed w E _ h = refl
 
+-- so does the reply to a move
 moved_reply_trimmed : (w : ℕ → Bool) (m : ℕ) (S : Tables) (v : Move) → NewWhole w S → moves_whole w S v →
     moved_reply (trimmed w (effect m S (entry_of v))) v ≡ moved_reply (effect m S (entry_of v)) v
 moved_reply_trimmed w m S (move.Answered n) new h =
@@ -228,6 +241,7 @@ revoked_on_whole w S n x h found =
     subst (λ j. AreWhole w (λ r. j == r.account) S.authorizations) (eqb-true x.number n here)
     (each_found _ (λ y. y.number == n) S.accounts x h.own found here refl refl)
 
+-- by each way of what carries no nonce
 office_way : (w : ℕ → Bool) (S : Tables) (a : OfficeAsk) (v : Verdict) → IsNoWork a → KeepsWhole w S (ask.Office a) → way S a v → ActsOnWhole w S v
 office_way w S a v none h (way.report_shown n finding r found) = h.owner
 office_way w S a v none h (way.reported n finding r c outcome found there waits) = h.owner
@@ -238,6 +252,7 @@ office_way w S a v none h way.challenge_work_listed = absurd none
 office_way w S a v none h way.order_work_listed = absurd none
 office_way w S a v none h _ = tt
 
+-- so its verdict acts on what is in whole
 pub office_on_whole : (w : ℕ → Bool) (S : Tables) (a : OfficeAsk) → IsNoWork a → KeepsWhole w S (ask.Office a) → ActsOnWhole w S (office_verdict S a)
 office_on_whole w S a none h = office_way w S a (office_verdict S a) none h (office_judged S a)
 
@@ -252,12 +267,14 @@ account_way w S r x s t v h own_whole (by.challenge_read k a found) = h.owner
 account_way w S r x s t v h own_whole (by.challenge_answered k a found is waits) = h.owner
 account_way w S r x s t v h own_whole _ = tt
 
+-- by each way of a signed request
 request_way : (w : ℕ → Bool) (S : Tables) (r : List ℕ) (s : Signed) (t : Target) (v : Verdict) → KeepsWhole w S (sent s t) → OfRequest S r s t v
     → ActsOnWhole w S v
 request_way w S r s t v h (OfRequest.held u j key x is found valid way) =
     account_way w S r x s t v h (each_found _ _ S.accounts x h.own found (or_left _ _ (held_key S s t key x is found))) way
 request_way w S r s t v h _ = tt
 
+-- so its verdict does
 pub signed_on_whole : (w : ℕ → Bool) (S : Tables) (r : List ℕ) (s : Signed) → KeepsWhole w S (ask.Signed s) → ActsOnWhole w S (signed_verdict S r s)
 signed_on_whole w S r s h = request_way w S r s s.target (signed_verdict S r s) h (request_judged S r s)
 
@@ -268,6 +285,7 @@ swept_on_whole : (w : ℕ → Bool) (S : Tables) (m : ℕ) (a : Ask) → KeepsWh
 swept_on_whole w S m a h = grind (arith, each-map, each)
 
 module _ (T S : Tables) (m : ℕ) (w : ℕ → Bool) (new : NewWhole w S) (past : AreWhole w (is_overdue m) S.authorizations) where
+  -- such a verdict is carried out the same
   carried_trimmed : (v : Verdict) → ActsOnWhole w (swept m S) v → CarriesOutAs m T S v → CarriesOutAs m T (trimmed w S) v
   carried_trimmed v wholly h =
       carries_thin T S m v (those w) all_whole
@@ -275,10 +293,12 @@ module _ (T S : Tables) (m : ℕ) (w : ℕ → Bool) (new : NewWhole w S) (past 
       ∙ effects_trimmed w m (swept m S) (entries_of v) new (verdict_touches w m (swept m S) v wholly))
       (λ index. verdict_reply_trimmed w m (swept m S) v index new wholly) h
 
+  -- a nonce is issued the same
   issues_trimmed : IssuesAs m T S → IssuesAs m T (trimmed w S)
   issues_trimmed h =
       record { records = λ r. recorded_trimmed w m S (issued r ∷ []) new past (each_all _ (swept m S).authorizations (λ r yes. cc), tt) ∙ h.records r }
 
+  -- a signed request is answered the same
   passes_trimmed : (s : Signed) → KeepsWhole w S (ask.Signed s) → PassesAs m s T S → PassesAs m s T (trimmed w S)
   passes_trimmed s kept h =
       record {
@@ -302,6 +322,7 @@ module _ (T S : Tables) (m : ℕ) (w : ℕ → Bool) (new : NewWhole w S) (past 
   office_wholly : (a : OfficeAsk) → IsNoWork a → KeepsWhole w S (ask.Office a) → SettlesAs m a T S → ActsOnWhole w (swept m S) (office_verdict (swept m T) a)
   office_wholly a none kept h = subst (ActsOnWhole w (swept m S)) h.judged (office_on_whole w (swept m S) a none (swept_on_whole w S m (ask.Office a) kept))
 
+  -- and so is what carries no nonce
   settles_trimmed : (a : OfficeAsk) → IsNoWork a → KeepsWhole w S (ask.Office a) → SettlesAs m a T S → SettlesAs m a T (trimmed w S)
   settles_trimmed a none kept h =
       search (rules, swept_trimmed, swept_on_whole, office_trimmed, office_wholly, carried_trimmed, recorded_trimmed, verdict_touches)

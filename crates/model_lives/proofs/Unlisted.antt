@@ -91,11 +91,13 @@ moves_order m S e o = touches_order e S.authorizations o && order_differs o (res
 pub bare_changes : (m : ℕ) (S : Tables) (e : Entry) → EachOf (λ o. moves_order m S e o ≡ false) S.orders → changes m S e ≡ changes m (bare S) e
 bare_changes m S e none = grind (arith, no_orders)
 
+-- a new nonce changes the same without the orders
 pub issued_bare : (m : ℕ) (S : Tables) (r : List ℕ) → all_changes m S (issued r ∷ []) ≡ all_changes m (bare S) (issued r ∷ [])
 issued_bare m S r = ap (λ cs. cs ++ []) (bare_changes m S (issued r) (each_all _ S.orders (λ o.
     ap (λ b. b && order_differs o (restated_order m (authorizations_after S (issued r) m) (noted_order (issued r) m o)))
     (nothing_touched S.authorizations (numbers_of o.listed)))))
 
+-- and so does a spent one before it
 pub nonces_bare : (m : ℕ) (S : Tables) (n : ℕ) (r : List ℕ) → all_changes m S (spent n ∷ issued r ∷ []) ≡ all_changes m (bare S) (spent n ∷ issued r ∷ [])
 nonces_bare m S n r =
     λ i. bare_changes m S (spent n) (each_all _ S.orders (λ o.
@@ -120,6 +122,7 @@ issued_open k T m r h covers =
         (bare_closed k T m h, covers_issued (open_kept k T) (swept m (bare T)) r, tt, tt)
         ∙ sym (issued_bare m (swept m T) r)
 
+-- and of a spent one before it
 nonces_open : (k : Kept) (T : Tables) (m : ℕ) (n : ℕ) (r : List ℕ) → IsOrdered T → CoversSweep k T m →
     recorded_changes m (restricted k T) (spent n ∷ issued r ∷ []) ≡ recorded_changes m T (spent n ∷ issued r ∷ [])
 nonces_open k T m n r h covers =
@@ -151,6 +154,7 @@ account_way k S r x s t v e named owned (OfAccount.orders_listed j) = orders_sho
 account_way k S r x s t v e named owned (OfAccount.certificate_read j o c found there) = certificate_shown k S j (named.order j (same_number j))
 account_way k S r x s t v e named owned _ = cc
 
+-- by each way of a signed request
 request_way : (k : Kept) (S : Tables) (r : List ℕ) (s : Signed) (t : Target) (v : Verdict) → target_needs_listed t ≡ false → KeepsNamed k S (sent s t)
     → OfRequest S r s t v → IsShown k S v
 request_way k S r s t v e named (OfRequest.unheld u why) = tt
@@ -158,19 +162,23 @@ request_way k S r s t v e named (OfRequest.opened key q is none asked pass) = cc
 request_way k S r s t v e named (OfRequest.held u j key x is found valid way) =
     account_way k S r x s t v e named (each_found _ _ S.accounts x named.orders found (or_left _ _ (held_key S s t key x is found))) way
 
+-- so its verdict is one
 signed_shown : (k : Kept) (S : Tables) (r : List ℕ) (s : Signed) → target_needs_listed s.target ≡ false → KeepsNamed k S (ask.Signed s) →
     IsShown k S (signed_verdict S r s)
 signed_shown k S r s e named = request_way k S r s s.target (signed_verdict S r s) e named (request_judged S r s)
 
 -- ---- the request
 
+-- such a verdict is carried out by the part as by the whole
 carried_open : (k : Kept) (T : Tables) (m : ℕ) (v : Verdict) → IsOrdered T → CoversSweep k T m → IsShown k (swept m T) v → CarriesOutAs m T (restricted k T) v
 carried_open k T m v h l g = grind (arith, carries_by, swept_open)
 
+-- behind the nonces, too
 records_open : (k : Kept) (T : Tables) (m : ℕ) (v : Verdict) → IsOrdered T → CoversSweep k T m → IsShown k (swept m T) v → (n : ℕ) (fresh : List ℕ) →
     recorded_changes m (restricted k T) (spent n ∷ issued fresh ∷ entries_of v) ≡ recorded_changes m T (spent n ∷ issued fresh ∷ entries_of v)
 records_open k T m v h l g n fresh = grind (arith, nonces_open)
 
+-- so the part answers the request as the whole
 pub passes_open : (k : Kept) (T : Tables) (m : ℕ) (s : Signed) → IsOrdered T → target_needs_listed s.target ≡ false → CoversSweep k T m →
     KeepsNamed k T (ask.Signed s) → PassesAs m s T (restricted k T)
 passes_open k T m s h e covers kept = search (rules, swept_names, swept_open, nonce_same, issued_open, signed_same, carried_open, signed_shown, records_open)

@@ -19,25 +19,31 @@ use Rattle.desk_model.specs.declared.call.Target.TheVariants as to
 
 -- ---- look-ups
 
+-- an account that is kept
 pub account_same : (k : Kept) (S : Tables) (n : ℕ) → k.accounts n ≡ true → account_on (restricted k S) n ≡ account_on S n
 account_same k S n h = find_kept (λ (a : AccountRow). a.number) k.accounts n S.accounts h
 
+-- an order that is kept
 pub order_same : (k : Kept) (S : Tables) (n : ℕ) → k.orders n ≡ true → order_on (restricted k S) n ≡ order_on S n
 order_same k S n h = find_kept (λ (o : OrderRow). o.number) k.orders n S.orders h
 
+-- an authorization that is kept
 pub authorization_same : (k : Kept) (S : Tables) (n : ℕ) → k.authorizations n ≡ true → authorization_on (restricted k S) n ≡ authorization_on S n
 authorization_same k S n h = find_kept (λ (a : AuthorizationRow). a.number) k.authorizations n S.authorizations h
 
+-- the authorization of a challenge, where those that may have it are kept
 pub owner_same : (k : Kept) (S : Tables) (n : ℕ) → EachOf (λ r. has_row n r ≡ true → k.authorizations r.number ≡ true) S.authorizations →
     owner_on (restricted k S) n ≡ owner_on S n
 owner_same k S n h = find_part (has_row n) (λ a. k.authorizations a.number) S.authorizations h
 
+-- the account with a key, where those that may have it are kept
 pub key_same : (k : Kept) (S : Tables) (key : List ℕ) → EachOf (λ x. bytes_eq x.key key ≡ true → k.accounts x.number ≡ true) S.accounts →
     account_with_key (restricted k S) key ≡ account_with_key S key
 key_same k S key h = find_part (λ a. bytes_eq a.key key) (λ a. k.accounts a.number) S.accounts h
 
 -- ---- the nonce
 
+-- a nonce is open in the part where it is in the whole
 pub nonce_same : (k : Kept) (S : Tables) (s : Signed) → ((n : ℕ) → carries (ask.Signed s) n ≡ true → k.nonces n ≡ true) →
     open_nonce (restricted k S) s.nonce ≡ open_nonce S s.nonce
 nonce_same k S s h = by (option_and_then nonce_in s.nonce) h
@@ -81,6 +87,7 @@ pub own_same : {X : Type 0} (account : X → ℕ) (n : ℕ) (f : X → Verdict) 
     given (own account n o) refusal.NotFound f ≡ given (own account n p) refusal.NotFound f
 own_same account n f o p same = ap (λ x. given (own account n x) refusal.NotFound f) same
 
+-- a request of an account that is kept, by its target
 target_same : (k : Kept) (S : Tables) (r : List ℕ) (n : ℕ) (p : List ℕ) (t : Target) → k.accounts n ≡ true →
     EachOf (λ x. target_new_key t p x.key ≡ true → k.accounts x.number ≡ true) S.accounts →
     ((j : ℕ) → target_order t j ≡ true → k.orders j ≡ true) →
@@ -97,6 +104,7 @@ target_same k S r n p (to.Authz j) y f o a c w = own_same _ n _ _ _ (authorizati
 target_same k S r n p (to.Chall j) y f o a c w = own_same _ n _ _ _ (owner_same k S j c)
 target_same k S r n p _ y f o a c w = refl
 
+-- by the account with its key
 keyed_same : (k : Kept) (S : Tables) (r key p : List ℕ) (t : Target) →
     EachOf (λ x. bytes_eq x.key key ≡ true → k.accounts x.number ≡ true) S.accounts →
     EachOf (λ x. target_new_key t p x.key ≡ true → k.accounts x.number ≡ true) S.accounts →
@@ -107,14 +115,17 @@ keyed_same : (k : Kept) (S : Tables) (r key p : List ℕ) (t : Target) →
     key_verdict (restricted k S) r key p t (account_with_key (restricted k S) key) ≡ key_verdict S r key p t (account_with_key S key)
 keyed_same k S r key p t h f o a c w = grind (arith, key_same, found_passes, target_same, each_found)
 
+-- so a signed request gets the same verdict
 pub signed_same : (k : Kept) (S : Tables) (r : List ℕ) (s : Signed) → KeepsNamed k S (ask.Signed s) → signed_verdict (restricted k S) r s ≡ signed_verdict S r s
 signed_same k S r s h = grind (arith, each, keyed_same)
 
 -- ---- the other asks
 
+-- a report on a challenge
 pub report_same : (k : Kept) (S : Tables) (n : ℕ) (finding : Finding) → KeepsNamed k S (ask.Office (office.Report n finding)) →
     report_verdict (restricted k S) n finding ≡ report_verdict S n finding
 report_same k S n finding h = grind (arith, owner_same)
 
+-- so what carries no nonce gets the same verdict
 pub office_same : (k : Kept) (S : Tables) (a : OfficeAsk) → KeepsNamed k S (ask.Office a) → office_verdict (restricted k S) a ≡ office_verdict S a
 office_same k S a h = grind (arith, report_same, order_same, authorization_same, account_same)

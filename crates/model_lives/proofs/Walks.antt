@@ -74,6 +74,7 @@ revoked_named T n x found =
     (each_found (λ y. (p : AccountRow → Bool) → p y ≡ true → list_any p T.accounts ≡ true) (λ y. y.number == n) T.accounts x (each_member T.accounts) found)
     r (ap (λ j. j == r.account) (eqb-true x.number n here) ∙ h))
 
+-- by each way of what carries no nonce
 office_way : (k : Kept) (T : Tables) (m : ℕ) (a : OfficeAsk) (v : Verdict) → IsNoWork a → IsReady k T m (ask.Office a) → way (swept m T) a v
     → IsAnswered k m (swept m T) v
 office_way k T m a v work ready (way.declined b why) = tt
@@ -109,6 +110,7 @@ office_way k T m a v work ready (way.account_revoked n x found valid) =
     (covered ready (revoked_named T n x found), account_shown k (effect m (swept m T) (account_ended n revoked)) n (ready.named.account n (same_number n)))
 office_way k T m a v work ready (way.key_shown n x found) = key_shown k (swept m T) n (ready.named.account n (same_number n))
 
+-- so its verdict is answered by the part
 pub office_answered : (k : Kept) (T : Tables) (m : ℕ) (a : OfficeAsk) → IsNoWork a → IsReady k T m (ask.Office a)
     → IsAnswered k m (swept m T) (office_verdict (swept m T) a)
 office_answered k T m a work ready = office_way k T m a (office_verdict (swept m T) a) work ready (office_judged (swept m T) a)
@@ -193,6 +195,7 @@ account_way k T m s r x t v ready kept named member owned asked (by.challenge_an
       (owner_after k (swept m T) m (answered j) j (swept_closed k T m ready.closed) (swept_names k T m (sent s t) ready.named).owner),
 )
 
+-- by each way of a signed request
 request_way : (k : Kept) (T : Tables) (m : ℕ) (r : List ℕ) (s : Signed) (t : Target) (v : Verdict) → IsReady k T m (sent s t)
     → OfRequest (swept m T) r s t v → IsAnswered k m (swept m T) v
 request_way k T m r s t v ready (OfRequest.unheld u why) = tt
@@ -207,6 +210,7 @@ request_way k T m r s t v ready (OfRequest.held u w key x is found valid way) =
     account_way k T m s r x t v ready (at_x _ ready.named.key own) named (at_x _ (each_member T.accounts))
     (at_x _ (swept_names k T m (sent s t) ready.named).orders named) (at_x _ (swept_names k T m (sent s t) ready.named).asked named) way
 
+-- so its verdict is answered by the part
 pub signed_answered : (k : Kept) (T : Tables) (m : ℕ) (r : List ℕ) (s : Signed) → IsReady k T m (ask.Signed s) →
     IsAnswered k m (swept m T) (signed_verdict (swept m T) r s)
 signed_answered k T m r s ready = request_way k T m r s s.target (signed_verdict (swept m T) r s) ready (request_judged (swept m T) r s)

@@ -42,6 +42,7 @@ office_way S a v of (OfOffice.authorization_shown n r found) = tt
 office_way S a v of (OfOffice.authorization_revoked n r found live) = tt
 office_way S a v of _ = absurd of
 
+-- the verdict is the same without accounts
 same_verdict : (S : Tables) (a : OfficeAsk) → IsOfAuthorization a → office_verdict (without_accounts S) a ≡ office_verdict S a
 same_verdict S a h = grind arith
 
@@ -67,10 +68,12 @@ changes_with m S e rows =
     ++ (map PutAuthorization (authorizations_put S e m)
     ++ map PutOrder (orders_put S e m))))
 
+-- a report changes the same without accounts
 reported_without_accounts : (m : ℕ) (S : Tables) (n : ℕ) (outcome : Outcome) → changes m (without_accounts S) (reported n outcome) ≡ changes m S (reported n
     outcome)
 reported_without_accounts m S n outcome = ap (changes_with m S (reported n outcome)) (filter_nothing S.accounts)
 
+-- and so does an end
 ended_without_accounts : (m : ℕ) (S : Tables) (n : ℕ) (ending : Ending) → changes m (without_accounts S) (authorization_ended n ending) ≡ changes m S
     (authorization_ended n ending)
 ended_without_accounts m S n ending = ap (changes_with m S (authorization_ended n ending)) (filter_nothing S.accounts)

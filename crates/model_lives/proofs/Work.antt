@@ -72,6 +72,7 @@ validator_kept T =
       orders = λ n. false;
     }
 
+-- the numbers of authorizations are those of the ones with work
 validator_same : (T : Tables) → IsOrdered T → EachOf (λ r. (validator_kept T).authorizations r.number ≡ has_work r) T.authorizations
 validator_same T h = numbered (λ (r : AuthorizationRow). r.number) has_work 1 T.authorizations h.authorizations.0
 
@@ -79,6 +80,7 @@ validator_same T h = numbered (λ (r : AuthorizationRow). r.number) has_work 1 T
 abbrev validator_thinning : Tables → Thinning
 validator_thinning T = record { rows = validator_kept T; challenges = waiting_challenges; whole = all_whole }
 
+-- the rows of the list are cut from the tables
 validator_cut : (T : Tables) → IsOrdered T → challenge_work_rows T ≡ thinned (validator_thinning T) T
 validator_cut T h =
     λ i. record {
@@ -90,6 +92,7 @@ validator_cut T h =
       orders = (filter_nothing T.orders ∙ sym (whole_orders (restricted (validator_kept T) T).orders)) i;
     }
 
+-- a part of these numbers settles the list
 validator_settles : (T : Tables) (m : ℕ) → IsOrdered T → SettlesAs m office.ChallengeWork T (restricted (validator_kept T) T)
 validator_settles T m h = grind (arith, shows_as, work_left, validator_same)
 
@@ -102,6 +105,7 @@ filter_again p (x ∷ xs) = grind (arith, (filter_again p xs))
 work_thin : (r : AuthorizationRow) → work_of (with_challenges waiting_challenges r) ≡ work_of r
 work_thin r = grind (arith, filter_again)
 
+-- the list shows no other challenges than those that wait
 challenge_work_thin : (S : Tables) → challenge_work (thin waiting_challenges all_whole S) ≡ challenge_work S
 challenge_work_thin S = ap (λ (items : List Data). document ((codes "challenges", list items) ∷ [])) (items S.authorizations)
   where
@@ -125,6 +129,7 @@ issuer_kept T =
       orders = at_number (λ (o : OrderRow). o.number) (λ o. is_processing o.status) T.orders;
     }
 
+-- the numbers of orders are those of the ones that wait
 issuer_same : (T : Tables) → IsOrdered T → EachOf (λ o. (issuer_kept T).orders o.number ≡ is_processing o.status) T.orders
 issuer_same T h = numbered (λ (o : OrderRow). o.number) (λ o. is_processing o.status) 1 T.orders h.orders.0
 
@@ -132,6 +137,7 @@ issuer_same T h = numbered (λ (o : OrderRow). o.number) (λ o. is_processing o.
 abbrev issuer_thinning : Tables → Thinning
 issuer_thinning T = record { rows = issuer_kept T; challenges = no_challenges; whole = all_whole }
 
+-- the rows of the list are cut from the tables
 issuer_cut : (T : Tables) → IsOrdered T → order_work_rows T ≡ thinned (issuer_thinning T) T
 issuer_cut T h =
     λ i. record {
@@ -183,6 +189,7 @@ issues_left k S h listed = grind (
       (each _ _ S.orders (λ o p yes. document_left k S o (p.1 (p.0 yes))) (each_both _ _ S.orders h listed))),
 )
 
+-- a part of these numbers settles the list
 issuer_settles : (T : Tables) (m : ℕ) → IsOrdered T → SettlesAs m office.OrderWork T (restricted (issuer_kept T) T)
 issuer_settles T m h =
     record {
@@ -241,6 +248,7 @@ needed_by T call a no_list h is none here settles =
     thinned_by T call a (needed T m a) is (here ∙ needed_cut T m a h)
     (needed_answers T m a h no_list (subst (AnswersAs m a T) (sym (all_needed T m a h none)) settles))
 
+-- the few rows are enough for each call
 pub minimal_enough : (T : Tables) (call : Call) → IsOrdered T → IsStatedFor call.ask (max call.at T.meta.counters.clock) T → IsEnoughFor call T (enough T call)
 minimal_enough T call h stated = by call.ask refl
   where

@@ -22,6 +22,7 @@ work_loaded T numbers h same =
     (each _ _ T.authorizations (λ r e. same (λ j. r.number == j) ∙ owner_has_work T r.number ∙ e)
     (numbered of_authorization has_work 1 T.authorizations h.authorizations.0)))
 
+-- the orders that wait for a certificate
 processing_found : (T : Tables) → IsOrdered T → IsFound of_order (λ o. is_processing o.status) T.orders (orders_processing T)
 processing_found T h = found_filter h.orders.0
 

@@ -1,4 +1,4 @@
-//! The texts of moments (RFC 3339, 5.6). `core_replies`, `app_reports` and `app_commands` stand on it.
+//! The texts of moments (RFC 3339, 5.6). `core_replies`, `app_reports`, `app_page` and `app_tasks` stand on it.
 #![tactic(auto)]
 
 ghost use Rattle.std.specs.Prelude.{◌≡◌, ◌≤◌, ◌*ℤ◌, pos, IfOk, string_bytes};

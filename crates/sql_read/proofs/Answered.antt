@@ -32,6 +32,7 @@ by place = (col 1 place, record { collation = Binary; descending = false })
 abbrev pub all_rows : Term
 all_rows = lit (Int (negsuc 0))
 
+-- the first row alone
 abbrev pub first_row : Term
 first_row = lit (Int (pos 1))
 
@@ -53,6 +54,7 @@ picked_from limit from tests project order = record {
 abbrev pub one : ℕ → Join
 one tree = inner tree end
 
+-- those of one tree
 abbrev pub picked_up_to : Term → ℕ → List Term → List Term → List (Term × Key) → Query
 picked_up_to limit tree = picked_from limit (one tree)
 
@@ -64,6 +66,7 @@ picked = picked_up_to all_rows
 abbrev pub Made : Type 0
 Made = Command × Option Returning × List (List ℕ)
 
+-- what a text was compiled to, if it was
 abbrev pub made_of : Result Compiled CompileError → Option Made
 made_of (Ok c) = Some (c.command, c.returning, c.formats)
 made_of (Err e) = None

@@ -17,12 +17,12 @@ use Rattle.sql_read.proofs.{JoinParts.joined_params, TableFacts.RowFacts, TableF
 
 -- ---- an order of what a map gives
 
--- what holds of each item
+-- what holds of each item that a map gives, of what it is given
 all_of_map : {X Y : Type 0} (P : Y → Type 0) (f : X → Y) (xs : List X) → AllByRecursion P (map f xs) → AllByRecursion (λ x. P (f x)) xs
 all_of_map P f [] h = tt
 all_of_map P f (x ∷ xs) h = (h.0, all_of_map P f xs h.1)
 
--- is one of what it is given
+-- where a map gives items in a strict order, it is given them in that order
 strictly_of_map : {X Y : Type 0} (cmp : Y → Y → Ordering) (f : X → Y) (xs : List X) → IsStrictlySortedBy cmp (map f xs)
     → IsStrictlySortedBy (λ x y. cmp (f x) (f y)) xs
 unfolding IsStrictlySortedBy
@@ -69,6 +69,7 @@ module _ {C A : Type 0} (number : C → ℕ) (key : A → ℕ) (rows : List A) w
   firsts [] h = refl
   firsts (c ∷ cs) h = ap (λ as'. map (λ (x : C × A). x.0) (map (λ a. (c, a)) as' ++ pairs cs)) h.0.1.0 ∙ ap (λ l. c ∷ l) (firsts cs h.1)
 
+  -- and stands beside its own
   pub each_beside : (cs : List C) → EachOf HasOne cs → EachOf IsBeside (pairs cs)
   each_beside [] h = tt
   each_beside (c ∷ cs) h =

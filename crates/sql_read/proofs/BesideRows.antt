@@ -57,6 +57,7 @@ module _ (cs : List (Owned ChallengeRow)) (rows : List AuthorizationRow) where
     pub same : a.number ≡ b.owner
     pub all : companions n ≡ of_one (λ x. x) a
 
+  -- which of the two
   pub one_asked : (n : ℕ) → Ascends challenge_layout.key 0 cs → EachOf (IsOwned rows) cs
       → ((filter (λ c. c.row.number == n) cs ≡ []) × (companions n ≡ [])) ⊎ ((b : Owned ChallengeRow) × (a : AuthorizationRow) × IsAsked n b a)
   one_asked n up owned = elim (one_or_none challenge_layout.key n 0 cs up) [

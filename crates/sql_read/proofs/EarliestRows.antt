@@ -42,7 +42,7 @@ twice m = (Int (pos m) ∷ [], Int (pos m) ∷ [])
 then_equal : (o : Ordering) → ordering_then o Equal ≡ o
 then_equal o = search rules
 
--- none is there
+-- where no moment can be, there is none
 none_of : (ms : List ℕ) → AllByRecursion (λ _. ⊥) (map twice ms) → ms ≡ []
 none_of [] h = refl
 none_of (m ∷ ms) h = absurd h.0
@@ -51,12 +51,12 @@ none_of (m ∷ ms) h = absurd h.0
 abbrev IsMoment : Output → Type 0
 IsMoment o = (m : ℕ) × (o ≡ twice m)
 
--- as each is
+-- each is a moment
 are_moments : (ms : List ℕ) → AllByRecursion IsMoment (map twice ms)
 are_moments [] = tt
 are_moments (m ∷ ms) = ((m, refl), are_moments ms)
 
--- none was found where there is none
+-- nothing is found where there is none
 found_none : (ms : List ℕ) (found : Option ℕ) → option_map (λ m. pos m) found ≡ None → ms ≡ [] → IsEarliest ms found
 found_none ms found h k = search rules
 
@@ -111,7 +111,7 @@ earliest_in ms found (o ∷ os) moved up is =
 
 -- ---- moments of a table
 
--- so the first is one
+-- the first of outputs that are moments is one
 begin_with_moment : (os : List Output) (rows : List Row) → AllByRecursion IsMoment os → rows ≡ first_of (map (λ (o : Output). o.1) os) → BeginWithMoment rows
 begin_with_moment [] rows all are = subst BeginWithMoment (sym are) tt
 begin_with_moment (o ∷ os) rows all are = subst BeginWithMoment (sym are) (all.0.0, ap (λ (p : Output). p.1) all.0.1)

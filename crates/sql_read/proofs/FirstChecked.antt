@@ -96,6 +96,7 @@ module _ {S : Type 0} (g : Ghosts S) where
       let alone = (books_have_rows only.rows T only.book only.by_key).metas in
       none T.meta (subst (EachOf IsStoredMeta) alone only.stored.metas).0 (subst (ShowsOnlyFirstMetas g (state g conn).now) alone only.metas)
 
+  -- where the row has no rows of a book with it, there is no book of format 1
   pub no_rows : (conn mid : Held S) (row : Meta) → (state g mid).now ≡ (state g conn).now → ShowsFirstMeta g conn row → HasNoRowsWith g mid row
       → HasNoFirstBook g conn
   no_rows conn mid row still shown none T only =

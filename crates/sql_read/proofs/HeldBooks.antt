@@ -63,6 +63,7 @@ all_placed order place n (o ∷ os) low up places =
     (λ order place later. all_placed order place (o.number + 1) os later up.1 places.1)
 
 module _ (T : Tables) (rising : AreRising T) (book : IsStoredBook T) where
+  -- the rows stand by key
   by_key : AreByKey (held_rows T)
   by_key =
       let challenges = challenge_rows T.authorizations in
@@ -77,6 +78,7 @@ module _ (T : Tables) (rising : AreRising T) (book : IsStoredBook T) where
         keys = sorted_rises key_layout.key (key_rows challenges);
       }
 
+  -- and are those of the book
   is_book : IsBookOf (held_rows T) T
   is_book =
       let challenges = challenge_rows T.authorizations in
@@ -98,6 +100,7 @@ module _ (T : Tables) (rising : AreRising T) (book : IsStoredBook T) where
 -- ---- what is shown
 
 module _ {S : Type 0} (g : Ghosts S) (here : Held S) (T : Tables) (book : IsStoredBook T) where
+  -- the rows are in the limits of their columns
   stored : (format : Format) → HoldsIn format (state g here).now T → AreStored (held_rows T)
   stored format has = record {
     metas = book.stored.metas;
@@ -117,6 +120,7 @@ module _ {S : Type 0} (g : Ghosts S) (here : Held S) (T : Tables) (book : IsStor
       subst (ShowsOnly g chall_key.SELECT.now key_in key_columns FitsKey (state g here).now) (map-id (held_rows T).keys)
       ((keys_whole g here T has).only book.texts)
 
+  -- the tables show these rows alone
   rows_only : (format : Format) → HoldsIn format (state g here).now T → ShowsOnlyRows g (state g here).now format (held_rows T)
   rows_only format has = record {
     nonces = subst (ShowsOnly g nonce.SELECT.now nonce_in nonce_columns FitsNonce (state g here).now) (map-id T.nonces)
@@ -162,6 +166,7 @@ module _ {S : Type 0} (g : Ghosts S) (here : Held S) (T : Tables) (book : IsStor
       raised_all (r ∷ []) same = let one : meta_in r ≡ formatted_columns (first_format, T.meta) = cc same in λ i. raised_meta (one i) ∷ []
       raised_all (r ∷ s ∷ given) same = absurd (cc same)
 
+  -- and in format 1 its book alone
   pub held_first_only : HoldsFirst (state g here).now T → ShowsOnlyFirstBook g (state g here).now T
   held_first_only has = record {
     rows = held_rows T;

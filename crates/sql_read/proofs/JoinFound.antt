@@ -28,6 +28,7 @@ waiting_pairs T = pairs owner (λ a. a.number) T.authorizations (found_waiting T
 abbrev pub waiting_of : Pair → JoinedChallenge
 waiting_of x = record { authorization = without_challenges x.1; challenge = x.0.row }
 
+-- those that wait, each with its authorization
 abbrev pub waiting_rows : Tables → List JoinedChallenge
 waiting_rows T = map waiting_of (waiting_pairs T)
 
@@ -66,7 +67,7 @@ module _ {S : Type 0} (g : Ghosts S) (old : Held S) (T : Tables) (has : Holds (s
 
   -- ---- in the tables
 
-  -- those that wait, each with its authorization
+  -- they are those that wait in the model, each with its authorization
   pub are_found : IsStoredBook T → AreWaiting T (map (λ w. (w.authorization.number, w.challenge)) (waiting_rows T))
       × EachOf (λ w. bare_authorizations T w.authorization.number ≡ w.authorization ∷ []) (waiting_rows T)
   are_found book =

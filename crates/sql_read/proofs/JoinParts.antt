@@ -19,9 +19,11 @@ use Rattle.sql_read.proofs.TableColumns.{challenge_status_at}
 abbrev pub Keyed : Type 0
 Keyed = Owned BareChallenge × Option AnswerKey
 
+-- the columns of these
 abbrev pub KeyedColumns : Type 0
 KeyedColumns = ChallColumns × Option ChallKeyColumns
 
+-- those of these rows
 abbrev pub keyed_columns : Keyed → KeyedColumns
 keyed_columns r = (challenge_columns r.0, option_map key_columns r.1)
 
@@ -29,9 +31,11 @@ keyed_columns r = (challenge_columns r.0, option_map key_columns r.1)
 abbrev pub Joined : Type 0
 Joined = (Owned BareChallenge × AuthorizationRow) × Option AnswerKey
 
+-- the columns of these
 abbrev pub JoinedColumns : Type 0
 JoinedColumns = (ChallColumns × AuthzColumns) × Option ChallKeyColumns
 
+-- those of these rows
 abbrev pub joined_columns : Joined → JoinedColumns
 joined_columns r = ((challenge_columns r.0.0, authorization_columns r.0.1), option_map key_columns r.1)
 
@@ -39,6 +43,7 @@ joined_columns r = ((challenge_columns r.0.0, authorization_columns r.0.1), opti
 abbrev pub IsStoredKeyed : Keyed → Type 0
 IsStoredKeyed r = IsStoredChallenge r.0 × IfRecorded IsStoredKey r.1
 
+-- the three are in their limits
 abbrev pub IsStoredJoined : Joined → Type 0
 IsStoredJoined r = (IsStoredChallenge r.0.0 × IsStoredAuthorization r.0.1) × IfRecorded IsStoredKey r.1
 
@@ -54,6 +59,7 @@ keyed-apart row other kept kept2 same =
       key-apart row.1 other.1 kept.1 kept2.1 (ap (λ (c : KeyedColumns). c.1) same) i,
     )
 
+-- they are told apart by their columns
 pub joined-apart : AreToldApart joined_columns IsStoredJoined
 joined-apart row other kept kept2 same =
     λ i. (
@@ -112,9 +118,11 @@ by_other = (col 3 0, record { collation = Binary; descending = false }) ∷ []
 abbrev pub challenge_at : ℕ → List Term
 challenge_at n = col n 0 ∷ col n 2 ∷ col n 3 ∷ col n 4 ∷ col n 5 ∷ col n 6 ∷ col n 7 ∷ col n 8 ∷ []
 
+-- of an authorization
 abbrev pub authorization_at : ℕ → List Term
 authorization_at n = col n 0 ∷ col n 2 ∷ col n 3 ∷ col n 4 ∷ col n 5 ∷ col n 6 ∷ col n 7 ∷ col n 8 ∷ col n 9 ∷ []
 
+-- of a key
 abbrev pub key_at : ℕ → List Term
 key_at n = col n 0 ∷ col n 2 ∷ []
 
@@ -122,9 +130,11 @@ key_at n = col n 0 ∷ col n 2 ∷ []
 abbrev pub keyed_project : List Term
 keyed_project = challenge_at 1 ++ key_at 2
 
+-- a challenge, its authorization and its key
 abbrev pub joined_project : List Term
 joined_project = challenge_at 1 ++ (authorization_at 2 ++ key_at 3)
 
+-- the same, behind the challenge that was asked for
 abbrev pub beside_project : List Term
 beside_project = challenge_at 3 ++ (authorization_at 2 ++ key_at 4)
 
@@ -140,6 +150,7 @@ key_or_nulls k = int_or_null (option_map (λ c. c.chall) k) ∷ blob_or_null (op
 abbrev pub keyed_params : KeyedColumns → Row
 keyed_params c = challenge_params c.0 ++ key_or_nulls c.1
 
+-- the row of three
 abbrev pub joined_params : JoinedColumns → Row
 joined_params c = challenge_params c.0.0 ++ (authorization_params c.0.1 ++ key_or_nulls c.1)
 
@@ -147,6 +158,7 @@ joined_params c = challenge_params c.0.0 ++ (authorization_params c.0.1 ++ key_o
 pub keyed_back : (c : KeyedColumns) → keyed_in (keyed_params c) ≡ c
 keyed_back c = grind arith
 
+-- and of three
 pub joined_back : (c : JoinedColumns) → joined_in (joined_params c) ≡ c
 joined_back c = grind arith
 
@@ -154,5 +166,6 @@ joined_back c = grind arith
 pub keyed_fits : (c : KeyedColumns) → HasTextChallenge c.0 → FitsKeyed (keyed_params c)
 keyed_fits c h = grind arith
 
+-- and of three
 pub joined_fits : (c : JoinedColumns) → HasTextChallenge c.0.0 × HasTextAuthorization c.0.1 → FitsJoined (joined_params c)
 joined_fits c h = grind arith

@@ -23,6 +23,7 @@ abbrev pub schema_of : Format → Schema
 schema_of First = first_schema
 schema_of Second = desk_schema
 
+-- the number of a format
 abbrev pub number_of : Format → ℤ
 number_of First = first_format
 number_of Second = known_format
@@ -40,6 +41,7 @@ module _ (db : Database) (T : Tables) where
   format_row First has = record { there = has.schema; rows_are = has.meta; rising = (omega arith, tt) }
   format_row Second has = record { there = has.schema; rows_are = has.meta; rising = (omega arith, tt) }
 
+  -- `meta`, in either format
   pub format_kept : (format : Format) → HoldsIn format db T → Keeps (schema_of format) formatted_facts db T ((number_of format, T.meta) ∷ [])
   format_kept format has = record { rows = format_row format has; stored = λ stored. stored.metas; texts = λ texts. texts.metas }
 

@@ -66,6 +66,7 @@ nonce_tests nonces_by.Any = []
 nonce_tests (nonces_by.Serial n) = is_equal 0
 nonce_tests (nonces_by.IssuedBefore t) = is_lower 3
 
+-- what each query of nonces means
 pub nonces_asked : (which : NoncesWhere) → IsReadingOf nonce_facts desk_schema all_rows (nonce_query which).0 (nonce_tests which) (nonce_query which).1
 unfolding understood everything
 nonces_asked nonces_by.Any = nonces_reading Second
@@ -78,6 +79,7 @@ account_tests accounts_by.Any = []
 account_tests (accounts_by.Number n) = is_equal 0
 account_tests (accounts_by.Key key) = is_equal 2
 
+-- what each query of accounts means
 pub accounts_asked : (which : AccountsWhere)
     → IsReadingOf account_facts desk_schema all_rows (account_query which).0 (account_tests which) (account_query which).1
 unfolding understood everything
@@ -92,6 +94,7 @@ order_tests (orders_by.Number n) = is_equal 0
 order_tests (orders_by.Past status m) = past order_status_at 4
 order_tests orders_by.Processing = is_equal order_status_at
 
+-- what each query of orders means
 pub orders_asked : (which : OrdersWhere) → IsReadingOf order_facts desk_schema all_rows (order_query which).0 (order_tests which) (order_query which).1
 unfolding understood everything
 orders_asked orders_by.Any = orders_reading Second
@@ -112,6 +115,7 @@ authorization_tests (authorizations_by.Account n) = is_equal 2
 authorization_tests (authorizations_by.Named n base) = are_equal 2 3
 authorization_tests (authorizations_by.Past status m) = past authorization_status_at 6
 
+-- what each query of authorizations means
 pub authorizations_asked : (which : AuthorizationsWhere)
     → IsReadingOf authorization_facts desk_schema all_rows (authorization_query which).0 (authorization_tests which) (authorization_query which).1
 unfolding understood everything

@@ -15,9 +15,11 @@ use Rattle.sql_read.proofs.TableColumns.{authorization_back, order_status_at}
 abbrev pub Place : Type 0
 Place = Owned Listed × AuthorizationRow
 
+-- the columns of a place and its authorization
 abbrev pub PlaceColumns : Type 0
 PlaceColumns = OrderAuthzColumns × AuthzColumns
 
+-- those of these rows
 abbrev pub place_columns : Place → PlaceColumns
 place_columns x = (listed_columns x.0, authorization_columns x.1)
 

@@ -60,6 +60,7 @@ module _ {S : Type 0} (g : Ghosts S) (text : List ℕ) (is : IsQuery text) where
   begun_query old new (inl begun) = begun
   begun_query old new (inr (returned, shown, ended)) = absurd (never_returns _ text is returned)
 
+  -- a query that has begun has only asked
   pub asks_begun : (old new : Held S) → (HasCleanDisk (state g new) → HasBegun g text [] old new)
       → (old.in_transaction ≡ Bool.false → new.in_transaction ≡ Bool.false)
       → Survives (state g old) (state g new) (CommitsShowing text [] (state g old)) → Asks (state g old) (state g new)
@@ -133,6 +134,7 @@ pub record IsNext {C R : Type 0} (spelled : Row → C) (write : R → C) (Fits :
   pub fits : Fits row
   pub stored : IsStored next
 
+-- where the rows that were given and one more are the first of all, that is the next
 pub next_row : {C R : Type 0} (spelled : Row → C) (write : R → C) (Fits : Row → Type 0) (IsStored : R → Type 0) → AreToldApart write IsStored
     → (given : List Row) (row : Row) (rows all : List R) → map spelled given ≡ map write rows → EachOf IsStored rows → EachOf IsStored all
     → AreFirst spelled write Fits (given ++ row ∷ []) all → IsNext spelled write Fits IsStored row rows all

@@ -64,10 +64,11 @@ facts_of bare write spelled row back IsStored apart HasText Fits fits = record {
 }
 
 module _ {X R C : Type 0} (r : RowFacts X R C) where
-  -- the columns of a row, and what is shown of it
+  -- the columns of a row
   abbrev pub columns : X → C
   columns x = r.write (r.bare x)
 
+  -- what is shown of a row
   abbrev pub cells : X → Row
   cells x = r.row (columns x)
 

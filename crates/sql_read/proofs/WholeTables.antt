@@ -64,7 +64,7 @@ pub record IsWhole {S X R C : Type 0} (g : Ghosts S) (t : TableFacts X R C) (tex
   pub readable : HasTexts T → IsReadable g here text t.Fits
   pub only : HasTexts T → ShowsOnly g text t.spelled t.write t.Fits (state g here).now (map t.bare xs)
 
--- one does
+-- a reading of a table that has these rows does
 pub whole : {S X R C : Type 0} (g : Ghosts S) (t : TableFacts X R C) {text : List ℕ} (here : Held S) (T : Tables) {xs : List X} {schema : Schema}
     → IsReadingOf t schema all_rows text [] [] → Keeps schema t (state g here).now T xs → IsWhole g t text here T xs
 whole {S} {X} {R} {C} g t {text} here T {xs} {schema} reading keeps =

@@ -3,7 +3,7 @@ use Rattle.std.proofs.{Common.ℕ, Common.List, Common.Ok, Common.OnErr, Common.
 use Rattle.sqlite.specs.{Order.Row, Effect.Database, declared.error.Error.Error, State.State, State.Survives, State.Executes}
 use Rattle.sql_schema.specs.Advances.{Advances, Declines, KeepsLast, Performs}
 
--- the same, whatever was answered
+-- a statement that failed declines
 pub declines_unless_answered : (text : List ℕ) (params : Row) (old new : State) (r : Result ℕ Error) → Performs text params old new r
     → OnErr r (Declines old new)
 declines_unless_answered text params old new r h = grind (arith, nat_tests)

@@ -51,17 +51,21 @@ terms = lit Null ∷ col 0 0 ∷ col 0 1 ∷ col 0 2 ∷ []
 abbrev project : List Term
 project = col 1 0 ∷ col 1 0 ∷ col 1 1 ∷ col 1 2 ∷ col 0 7 ∷ []
 
+-- what the upsert means
 upsert_means : Means ord_authz.WRITING.1.now (InsertOr 5 Abort (Values terms 4) (clause_on (1 ∷ 2 ∷ []) 6 3 project ∷ []))
 unfolding understood everything
 upsert_means = record { is = refl; plain = (refl, refl) }
 
+-- what the insertion means
 insert_means : Means ord_authz.WRITING.0.now (Insert 5 (Values terms 4))
 unfolding understood everything
 insert_means = record { is = refl; plain = (refl, refl) }
 
+-- a row keeps its values
 casts : (t : ℕ × Owned Listed) → cast_row ord_authz_table (hidden listed_cells t) ≡ hidden listed_cells t
 casts t = row_kept ord_authz_table _ _ (cast_int _, (cast_int _, (cast_int _, tt)))
 
+-- two places agree where both columns do
 both : (a b : Bool) → (a && (b && true)) || false ≡ (a && b)
 both a b = search rules
 
@@ -123,5 +127,6 @@ appends_listed old new x count h before has =
 pub advances_listed : Carries ord_authz.WRITING.1.now (λ x. listed_params (listed_columns x)) Places
 advances_listed = carries ord_authz.WRITING.1.now (λ x. listed_params (listed_columns x)) Places places_listed
 
+-- and the insertion
 pub advances_appended : Carries ord_authz.WRITING.0.now (λ x. listed_params (listed_columns x)) Appends
 advances_appended = carries ord_authz.WRITING.0.now (λ x. listed_params (listed_columns x)) Appends appends_listed

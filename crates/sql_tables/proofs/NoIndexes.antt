@@ -29,6 +29,7 @@ beside_last : (xs ys : List ℕ) (t : ℕ) → beside (xs ++ ys) t ≡ true → 
 beside_last [] ys t is = is
 beside_last (x ∷ xs) ys t is = beside_last xs ys t (and_parts (not (t == x)) (beside (xs ++ ys) t) is).1
 
+-- a tree beside all of some is beside the first of them
 beside_first : (xs ys : List ℕ) (t : ℕ) → beside (xs ++ ys) t ≡ true → beside xs t ≡ true
 beside_first [] [] t is = is
 beside_first [] (y ∷ ys) t is = beside_first [] ys t (and_parts (not (t == y)) (beside ys t) is).1

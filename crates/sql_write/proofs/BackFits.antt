@@ -57,7 +57,7 @@ one_back T c up kept h = record { challenges = challenges_back T c kept h.challe
 orders_rise : (T : Tables) (c : Change) → IsRising order_layout.key T.orders → IsRising order_layout.key (applied_one c T).orders
 orders_rise T c h = search (rules, put_rises)
 
--- nor before all changes
+-- no two children are one before all changes, where they are not after
 all_back : (cs : List Change) (T : Tables) → IsRising order_layout.key T.orders → AreKept T cs → InOrder (applied cs T) → InOrder T
 all_back [] T up kept h = h
 all_back (c ∷ cs) T up kept h = one_back T c up kept.0 (all_back cs (applied_one c T) (orders_rise T c up) kept.1 h)

@@ -8,7 +8,7 @@ use Rattle.model_laws.specs.Distinct.{Distinct}
 use Rattle.desk_model.specs.declared.rows.{AuthorizationRow.AuthorizationRow, ChallengeRow.ChallengeRow}
 use Rattle.sql_tables.specs.Layouts.{challenge_layout}
 
--- those of one authorization's
+-- the numbers of the challenges of one authorization
 abbrev numbers_in : AuthorizationRow → List ℕ
 numbers_in a = map (λ c. c.number) a.challenges
 

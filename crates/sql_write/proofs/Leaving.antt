@@ -59,6 +59,7 @@ module _ {S : Type 0} (g : Ghosts S) (old last after : Held S) (all : List Sql) 
   caused (Err fault) why ran (inl is) early fits = let same : fault ≡ why = cc in stopped why (subst (Stops g all (begun old) last) same ran) early fits
   caused (Err fault) why ran (inr it) early fits = absurd (let never = it.0 in cc)
 
+  -- so the transaction leaves this
   leaves_begun : (done result : Result (Unit {0}) SaveFault) → (Does (state g old).now (state g last).now → Says (state g old).now (state g last).now)
       → HasWritten g all Does (begun old) last done → Ends done result → Leaves result
   leaves_begun done result means it ends = by result ends

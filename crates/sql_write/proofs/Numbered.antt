@@ -55,6 +55,7 @@ module _ {X : Type 0} (key : X → ℕ) where
     pub put_is : put key x xs ≡ pre ++ x ∷ post
     pub new : find (λ y. key y == key x) xs ≡ None → xs ≡ pre ++ post
 
+  -- which it does
   pub put_parts : (x : X) (xs : List X) → PutParts x xs
   put_parts x [] = record { pre = []; post = []; put_is = refl; new = λ none. refl }
   put_parts x (y ∷ ys) = elim (ranked (key y) (key x)) [

@@ -44,26 +44,34 @@ texts_by : {X : Type 0} (L : Layout X) (rows : RowWriting X) (kept : X → Row) 
     → IsInsert L puts rows.texts.0.now → IsUpdate L puts rows.updates kept rows.texts.2.now → AreTexts rows (Writes L kept)
 texts_by L rows kept puts adds renews = search (rules, advances_by, advances_inserted, advances_renewed)
 
+-- `meta`
 pub meta_texts : AreTexts meta_writing (RenewsOrPuts formatted_layout (λ x. meta_kept (formatted_columns x)))
 meta_texts = search (rules, advances_by, meta_upsert, advances_renewed, meta_update)
 
+-- `nonce`
 pub nonce_texts : AreTexts nonce_writing (AddsOrPuts nonce_layout)
 nonce_texts = search (rules, advances_by, nonce_upsert, advances_inserted, nonce_insert)
 
+-- `account`
 pub account_texts : AreTexts account_writing (Writes account_layout (λ x. account_kept (account_columns x)))
 account_texts = texts_by account_layout account_writing _ account_upsert account_insert account_update
 
+-- `ord`
 pub order_texts : AreTexts order_writing (Writes order_layout (λ x. order_kept (order_columns x)))
 order_texts = texts_by order_layout order_writing _ order_upsert order_insert order_update
 
+-- `authz`
 pub authorization_texts : AreTexts authorization_writing (Writes authorization_layout (λ x. authorization_kept (authorization_columns x)))
 authorization_texts = texts_by authorization_layout authorization_writing _ authorization_upsert authorization_insert authorization_update
 
+-- `ord_authz`
 pub listed_texts : AreTexts listed_writing AppendsOrPlaces
 listed_texts = record { puts = advances_listed; adds = advances_appended; renews = advances_listed }
 
+-- `chall_key`
 pub key_texts : AreTexts key_writing (AddsOrPuts key_layout)
 key_texts = search (rules, advances_by, key_upsert, advances_inserted, key_insert)
 
+-- `chall`
 pub challenge_texts : AreTexts challenge_writing (Writes challenge_layout (λ c. challenge_kept (challenge_columns (bare_row c))))
 challenge_texts = texts_by challenge_layout challenge_writing _ challenge_upsert challenge_insert challenge_update

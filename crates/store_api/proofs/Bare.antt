@@ -22,6 +22,7 @@ module _ {X : Type 0} (number : X → ℕ) (bare : X → X) (same : (x : X) → 
       by false true ih = refl
       by false false ih = ap (λ l. bare y ∷ l) ih
 
+  -- and so are bare rows
   pub puts_bare : (xs ys : List X) → puts number (map bare xs) (map bare ys) ≡ map bare (puts number xs ys)
   puts_bare [] ys = refl
   puts_bare (x ∷ xs) ys = ap (puts number (map bare xs)) (put_bare x ys) ∙ puts_bare xs (put number x ys)

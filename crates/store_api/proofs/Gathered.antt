@@ -37,5 +37,6 @@ put_by number rows_of y z rows later put_now same = put_now ∙ ap (λ v. puts n
 pub of_two : {X Y : Type 0} (rows_of : Y → List X) (a b : Y) → flat_map rows_of (a ∷ b ∷ []) ≡ rows_of a ++ rows_of b
 of_two rows_of a b = ap (λ l. rows_of a ++ l) (append-nil (rows_of b))
 
+-- the rows of three
 pub of_three : {X Y : Type 0} (rows_of : Y → List X) (a b c : Y) → flat_map rows_of (a ∷ b ∷ c ∷ []) ≡ rows_of a ++ (rows_of b ++ rows_of c)
 of_three rows_of a b c = ap (λ l. rows_of a ++ l) (of_two rows_of b c)

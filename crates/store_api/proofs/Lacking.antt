@@ -95,7 +95,7 @@ module _ {X : Type 0} (number : X → ℕ) (bare needed : X → X) (bare_number 
       ∙ ap (λ t. map needed (puts number zs t))
       (sym (put_number number xs up (number z) q) ∙ ap (λ rows. puts number rows (filter q xs)) (rows_one number 1 (number z) z xs up h.0))
 
-  -- and those of numbers in a row
+  -- and so are bare rows of numbers, one after the other
   bares_put : (ns : List ℕ) (q : X → Bool) → ((x : X) → is_whole x ≡ true → q x ≡ true) →
       missings number (λ k. map bare (rows_at number xs k)) ns (map needed (filter q xs))
       ≡ map needed (puts number (flat_map (rows_at number xs) ns) (filter q xs))
@@ -160,8 +160,7 @@ whole_challenges : (T : Tables) (m : ℕ) (a : Ask) (rs : List AuthorizationRow)
 whole_challenges T m a [] = refl
 whole_challenges T m a (r ∷ rs) = grind (arith, (whole_challenges T m a rs))
 
--- the authorizations that may change, or are named or wanted, and those that orders list, which lack their challenges, are the authorizations as
--- they are needed
+-- the authorizations that may change, are named or are wanted, and bare ones that orders list, are those of the rows as they are needed
 pub needed_authorizations : (T : Tables) (m : ℕ) (a : Ask) → IsOrdered T →
     missings of_authorization (bare_authorizations T) (flat_map (λ (o : OrderRow). numbers_of o.listed) (orders_once (opened_orders T m a)))
     (puts of_authorization

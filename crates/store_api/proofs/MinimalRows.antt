@@ -69,16 +69,19 @@ holders_missing T a h =
     named = found_table of_account (is_named_account a) 1 T.accounts (named_accounts T a) h.accounts.0 (accounts_named T a h)
 
 module _ (T : Tables) (m : ℕ) (a : Ask) (needs : RowsNeeded) (is : NeedsFor a m needs) where
+  -- the authorizations that are named, or of an account that ends
   pub movable_are : (accounts : List AccountRow) → accounts ≡ accounts_once (named_accounts T a) → movable_by T needs accounts ≡ moved_authorizations T a
   movable_are accounts same = λ i.
       (flat_map (authorizations_numbered T) (is.named.authorization i)
       ++ flat_map (λ c. flat_map (authorizations_numbered T) (owners_of T c)) (is.named.challenge i))
       ++ (if is.restated i && is.named.authorizations_asked i then flat_map (λ (x : AccountRow). authorizations_of T x.number) (same i) else [])
 
+  -- those whose statuses may change
   pub restated_are : (movable : List AuthorizationRow) → movable ≡ authorizations_once (moved_authorizations T a) →
       restated_by T needs movable ≡ restated_authorizations T m a
   restated_are movable same = λ i. past_authorizations T (is.moment i) ++ (if is.restated i then same i else [])
 
+  -- the orders whose statuses may change, or that are named
   pub opened_are : (rows : List AuthorizationRow) → rows ≡ authorizations_once (restated_authorizations T m a) →
       opened_with T needs rows ≡ opened_orders T m a
   opened_are rows same = λ i.

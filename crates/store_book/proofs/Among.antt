@@ -38,6 +38,7 @@ pub record HasPlace (xs : List ℕ) (n : ℕ) : Type 0 where
   pub within : place < length xs
   pub is : get_or xs place 0 ≡ n
 
+-- a number among others has a place among them
 has_place : (xs : List ℕ) (n : ℕ) → IsAmong xs n → HasPlace xs n
 has_place [] n among = absurd (cc among)
 has_place (x ∷ xs) n among = by (x == n) refl (has_place xs n) among

@@ -40,6 +40,7 @@ distinct-answer c o xs ys permuted up false h = (
 
 -- ---- from keys to the rows that have them
 
+-- keys none of which stands twice have different values, where equal values are of equal keys
 distinct-values : {K Y : Type 0} (e : K → K → Bool) (value : K → Y) → ((k l : K) → value k ≡ value l → e k l ≡ true) → (ks : List K)
     → IsDistinct e ks → Distinct value ks
 unfolding IsDistinct
@@ -53,6 +54,7 @@ distinct-values e value equal (k ∷ ks) h = (
 differ : (b : Bool) → (b ≡ true → ⊥) → b ≡ false
 differ b fails = grind arith
 
+-- keys of different values stand once each, where equal keys have equal values
 pub values-distinct : {K Y : Type 0} (e : K → K → Bool) (value : K → Y) → ((k l : K) → e k l ≡ true → value k ≡ value l) → (ks : List K)
     → Distinct value ks → IsDistinct e ks
 unfolding IsDistinct
@@ -73,5 +75,6 @@ distinct-rows c key value equal same ks xs are r says = (
 pub equal-numbers : (m n : ℕ) → is_eq (nat_cmp m n) ≡ true → m ≡ n
 equal-numbers m n h = grind (arith, nat_tests)
 
+-- and the order says so where they are
 pub numbers-equal : (m n : ℕ) → m ≡ n → is_eq (nat_cmp m n) ≡ true
 numbers-equal m n h = grind (arith, nat_tests)

@@ -53,9 +53,11 @@ distinct_moved number xs ys permuted apart =
 
 -- ---- the book
 
+-- an authorization with these challenges
 abbrev with_challenges : AuthorizationRow → List ChallengeRow → AuthorizationRow
 with_challenges a cs = record a { challenges = cs }
 
+-- an order that lists this
 abbrev with_listed : OrderRow → List Listed → OrderRow
 with_listed o ls = record o { listed = ls }
 
@@ -71,12 +73,15 @@ tables_of meta rows =
     }
 
 module _ (meta : Meta) (rows : FlatRows) (stored : AreStored rows) (are : AreBookRows meta rows) where
+  -- the challenges with their keys
   abbrev whole : List (Owned ChallengeRow)
   whole = joined rows.challenges rows.keys
 
+  -- they have the rows
   has : (map bare_row whole ≡ rows.challenges) × (key_rows whole ≡ rows.keys)
   has = joined_has rows.challenges rows.keys are.keys
 
+  -- the tables
   abbrev T : Tables
   T = tables_of meta rows
 
@@ -89,6 +94,7 @@ module _ (meta : Meta) (rows : FlatRows) (stored : AreStored rows) (are : AreBoo
   each_whole : (P : Owned BareChallenge → Type 0) → EachOf P rows.challenges → EachOf (λ c. P (bare_row c)) whole
   each_whole P h = each_of_map P bare_row whole (subst (EachOf P) (sym has.0) h)
 
+  -- each authorization has its challenges
   pub authorizations_nest : IsNestOf (λ (a : AuthorizationRow). a.number) (λ a. a.challenges) with_challenges (λ (c : ChallengeRow). c.number)
       rows.authorizations whole T.authorizations
   authorizations_nest =
@@ -99,6 +105,7 @@ module _ (meta : Meta) (rows : FlatRows) (stored : AreStored rows) (are : AreBoo
       (each_whole (λ c. IsAmong (map (λ a. a.number) rows.authorizations) c.owner) are.challenges.authorizations_found)
       (λ n. of_table (λ (c : ChallengeRow). c.number) n whole whole_ascends)
 
+  -- each order has what it lists
   pub orders_nest : IsNestOf (λ (o : OrderRow). o.number) (λ o. o.listed) with_listed (λ (l : Listed). l.place) rows.orders rows.listed T.orders
   orders_nest =
       nests_of (λ (o : OrderRow). o.number) (λ o. o.listed) with_listed (λ (l : Listed). l.place)
@@ -109,9 +116,11 @@ module _ (meta : Meta) (rows : FlatRows) (stored : AreStored rows) (are : AreBoo
       (λ n. places_ascend n 1 rows.listed (each IsStoredListed (λ r. r.owner ≡ n → 1 ≤ r.row.place) rows.listed (λ r k _. k.place) stored.listed)
       are.listed.places)
 
+  -- the tables stand by number
   in_order : AreInOrder T
   in_order = grind (arith, authorizations_nest, orders_nest)
 
+  -- their counters are kept
   counters : KeepCounters T
   counters = search (rules, each-map, with_rows, each_all, rows_of, each_of_owner, each_whole)
 
@@ -125,6 +134,7 @@ module _ (meta : Meta) (rows : FlatRows) (stored : AreStored rows) (are : AreBoo
       numbers_kept [] = refl
       numbers_kept (a ∷ rest) = ap (λ l. a.number ∷ l) (numbers_kept rest)
 
+  -- they have what they refer to
   references : HaveReferences T
   references = record {
     authorizations = each-map (λ a. IsSome (account_on T a.account)) (with_rows (λ (a : AuthorizationRow). a.number) with_challenges whole)
@@ -141,6 +151,7 @@ module _ (meta : Meta) (rows : FlatRows) (stored : AreStored rows) (are : AreBoo
         (λ l. authorization_found l.row.authorization) are.listed.authorizations_found)));
   }
 
+  -- what must differ differs
   distinct : AreDistinct T
   distinct = record {
     keys = are.accounts.keys;
@@ -151,6 +162,7 @@ module _ (meta : Meta) (rows : FlatRows) (stored : AreStored rows) (are : AreBoo
         (ascends_distinct (λ (c : Owned ChallengeRow). c.row.number) 1 whole whole_ascends))));
   }
 
+  -- so they are a book of the rows
   pub book : IsBookOf rows T
   book =
       grind (arith, in_order, counters, references, distinct, IsPermutation-refl, orders_nest, authorizations_nest, has, IsPermutation-map, picked-permutation)

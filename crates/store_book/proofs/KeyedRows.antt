@@ -52,6 +52,7 @@ each_child number children Q (p ∷ ps) h = search (rules, each-append, each-map
 later : (n order place : ℕ) (s : Owned Listed) → n < order → IsPlacedNext order place s.owner s.row.place → n < s.owner
 later n order place s h k = search rules
 
+-- among places of later orders none is of an earlier one
 past : (n k order place : ℕ) (rows : List (Owned Listed)) → n < order → PlacedFrom order place rows → EachOf (λ s. s.owner ≡ n → k < s.row.place) rows
 past n k order place [] low placed = tt
 past n k order place (s ∷ rows) low placed = grind (arith, later, (past n k s.owner s.row.place rows (later n order place s low placed.0) placed.1))
@@ -87,18 +88,23 @@ key_numbers (c ∷ cs) = grind (arith, (key_numbers cs))
 -- ---- the rows of a book
 
 module _ (rows : FlatRows) (T : Tables) (book : IsBookOf rows T) (by_key : AreByKey rows) where
+  -- the accounts of the rows are those of the tables
   accounts_same : rows.accounts ≡ T.accounts
   accounts_same = grind (arith, same_ascending)
 
+  -- the orders ascend
   orders_up : Ascends (λ o. o.number) 1 (map without_listed T.orders)
   orders_up = ascends_map (λ o. o.number) (λ o. o.number) without_listed (λ o. refl) 1 T.orders book.is_book.in_order.orders
 
+  -- and are those of the tables
   orders_same : rows.orders ≡ map without_listed T.orders
   orders_same = same_ascending (λ o. o.number) 0 1 rows.orders (map without_listed T.orders) by_key.orders orders_up book.has_rows.orders
 
+  -- the authorizations ascend
   authorizations_up : Ascends (λ a. a.number) 1 (map without_challenges T.authorizations)
   authorizations_up = grind (arith, ascends_map)
 
+  -- and are those of the tables
   authorizations_same : rows.authorizations ≡ map without_challenges T.authorizations
   authorizations_same = grind (arith, same_ascending, authorizations_up)
 
@@ -114,12 +120,15 @@ module _ (rows : FlatRows) (T : Tables) (book : IsBookOf rows T) (by_key : AreBy
   authorization_numbers : map (λ a. a.number) rows.authorizations ≡ map (λ a. a.number) T.authorizations
   authorization_numbers = ap (map (λ a. a.number)) authorizations_same ∙ map-map (λ (a : AuthorizationRow). a.number) without_challenges T.authorizations
 
+  -- so is an authorization
   authorization_among : (n : ℕ) → IsSome (authorization_on T n) → IsAmong (map (λ a. a.number) rows.authorizations) n
   authorization_among n found = grind (arith, authorization_numbers, among_found)
 
+  -- the orders pass their checks
   orders_are : AreOrders T.meta.counters.orders (map (λ a. a.number) rows.accounts) rows.orders
   orders_are = search (rules, orders_same, orders_up, each-map, each, account_among)
 
+  -- the authorizations do
   authorizations_are : AreAuthorizations T.meta.counters.authorizations (map (λ a. a.number) rows.accounts) rows.authorizations
   authorizations_are = search (rules, authorizations_same, authorizations_up, each-map, each, account_among)
 
@@ -129,10 +138,11 @@ module _ (rows : FlatRows) (T : Tables) (book : IsBookOf rows T) (by_key : AreBy
       each_moved Q (listed_rows T.orders) rows.listed (IsPermutation-sym rows.listed (listed_rows T.orders) book.has_rows.listed)
       (each_child (λ (o : OrderRow). o.number) (λ o. o.listed) Q T.orders h)
 
+  -- what the orders list does
   listed_are : AreListed (map (λ o. o.number) rows.orders) (map (λ a. a.number) rows.authorizations) rows.listed
   listed_are = search (rules, places_rise, each_listed, each, each_all, order_numbers, all_among, authorization_among)
 
-  -- so it is of challenges
+  -- what holds of each challenge holds of all that was shown
   each_challenge : (Q : Owned BareChallenge → Type 0)
       → EachOf (λ a. EachOf (λ c. Q (bare_row (record { owner = a.number; row = c }))) a.challenges) T.authorizations → EachOf Q rows.challenges
   each_challenge Q h =
@@ -140,6 +150,7 @@ module _ (rows : FlatRows) (T : Tables) (book : IsBookOf rows T) (by_key : AreBy
       each_moved Q (map bare_row all) rows.challenges (IsPermutation-sym rows.challenges (map bare_row all) book.has_rows.challenges)
       (each-map Q bare_row all (each_child (λ (a : AuthorizationRow). a.number) (λ a. a.challenges) (λ c. Q (bare_row c)) T.authorizations h))
 
+  -- the challenges do
   challenges_are : AreChallenges T.meta.counters.challenges (map (λ a. a.number) rows.authorizations) rows.challenges
   challenges_are = record {
     table = (
@@ -157,6 +168,7 @@ module _ (rows : FlatRows) (T : Tables) (book : IsBookOf rows T) (by_key : AreBy
         (all_among (λ (a : AuthorizationRow). a.number) 1 T.authorizations book.is_book.in_order.authorizations));
   }
 
+  -- the keys are those of the challenges that were answered
   keys_are : map (λ k. k.challenge) rows.keys ≡ answered_numbers rows.challenges
   keys_are =
       let all = challenge_rows T.authorizations in
@@ -170,6 +182,7 @@ module _ (rows : FlatRows) (T : Tables) (book : IsBookOf rows T) (by_key : AreBy
       (answered_up 0 rows.challenges by_key.challenges)
       (IsPermutation-trans numbers (answered_numbers (map bare_row all)) (answered_numbers rows.challenges) of_keys of_challenges)
 
+  -- so the rows are those of a book
   are : AreBookRows T.meta rows
   are = record {
     metas = same_single rows.metas T.meta book.has_rows.metas;
@@ -187,6 +200,6 @@ module _ (rows : FlatRows) (T : Tables) (book : IsBookOf rows T) (by_key : AreBy
     keys = keys_are;
   }
 
--- they are so
+-- so it is of the rows of each book
 pub books_have_rows : BooksHaveRows
 books_have_rows = are

@@ -10,15 +10,19 @@ use Rattle.store_book.specs.Nesting.{by_number, by_owner, child_rows}
 use Rattle.store_book.proofs.SortedLists.{same_strictly}
 use Rattle.model_laws.proofs.Basics.{each-append}
 
+-- the order by number is total
 by_number-total : {X : Type 0} (number : X → ℕ) → IsTotalOrder (by_number number)
 by_number-total number = on_total number nat_cmp_total
 
+-- and that by owner, then by number
 pub by_owner-total : {T : Type 0} (number : T → ℕ) → IsTotalOrder (by_owner number)
 by_owner-total number = then_total (on_total (λ r. r.owner) nat_cmp_total) (on_total (λ r. number r.row) nat_cmp_total)
 
+-- a lower number is below
 less_at : (m n : ℕ) → m < n → nat_cmp m n ≡ Ordering.Less
 less_at m n h = grind (arith, nat_tests)
 
+-- a number is equal to itself
 equal_at : (n : ℕ) → nat_cmp n n ≡ Ordering.Equal
 equal_at n = grind (arith, nat_tests)
 
@@ -47,6 +51,7 @@ above_owner : {T : Type 0} (number : T → ℕ) (k : ℕ) (t : T) (n : ℕ) (us 
 above_owner number k t n [] lt = tt
 above_owner number k t n (u ∷ us) lt = (ap (λ o. ordering_then o (nat_cmp (number t) (number u))) (less_at k n lt), above_owner number k t n us lt)
 
+-- a child of a lower owner is below all children
 above_owners : {P T : Type 0} (number : P → ℕ) (children : P → List T) (child_number : T → ℕ) (k : ℕ) (t : T) (n : ℕ) (ps : List P) → k < n
     → Ascends number n ps →
     AllByRecursion (λ y. by_owner child_number (record { owner = k; row = t }) y ≡ Ordering.Less) (child_rows number children ps)
@@ -58,6 +63,7 @@ above_owners number children child_number k t n (p ∷ ps) lt h = grind (
   (above_owner child_number k t (number p) (children p) (omega arith)),
 )
 
+-- and so are all of its children
 all_above_owners : {P T : Type 0} (number : P → ℕ) (children : P → List T) (child_number : T → ℕ) (k : ℕ) (ts : List T) (n : ℕ)
     (ps : List P) → k < n → Ascends number n ps →
     AllByRecursion (λ x. AllByRecursion (λ y. by_owner child_number x y ≡ Ordering.Less) (child_rows number children ps)) (owned_by k ts)
@@ -65,6 +71,7 @@ all_above_owners number children child_number k [] n ps lt h = tt
 all_above_owners number children child_number k (t ∷ ts) n ps lt h =
     (above_owners number children child_number k t n ps lt h, all_above_owners number children child_number k ts n ps lt h)
 
+-- a child is below those of its owner that have higher numbers
 above_sibling : {T : Type 0} (number : T → ℕ) (k : ℕ) (t : T) (n : ℕ) (us : List T) → number t < n → Ascends number n us →
     AllByRecursion (λ y. by_owner number (record { owner = k; row = t }) y ≡ Ordering.Less) (owned_by k us)
 above_sibling number k t n [] lt h = tt

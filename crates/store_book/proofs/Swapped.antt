@@ -33,21 +33,23 @@ flat-sets f d (x ∷ xs) zero (suc j) a b = flat-first f x d xs j (omega (arith,
 flat-sets f d (x ∷ xs) (suc i) zero a b = flat-first f x d xs i (omega (arith, a))
 flat-sets f d (x ∷ xs) (suc i) (suc j) a b = IsPermutation-append_right (f x) _ _ (flat-sets f d xs i j (omega (arith, a)) (omega (arith, b)))
 
+-- as they change places
 flat-swap : {X B : Type 0} (f : X → List B) (l : List X) (i j : ℕ) → i < length l → j < length l → IsPermutation (flat_map f l) (flat_map f (swap l i j))
 flat-swap f [] i j a b = absurd (omega (arith, a))
 flat-swap f (d ∷ ls) i j a b = flat-sets f d (d ∷ ls) i j a b
 
+-- what is made of elements in another order is in another order
 pub flat-permutation : {X B : Type 0} (f : X → List B) (zs ws : List X) → IsPermutation zs ws → IsPermutation (flat_map f zs) (flat_map f ws)
 flat-permutation {X} f zs ws p =
     IsPermutation-keeps zs (λ l. IsPermutation (flat_map f zs) (flat_map f l)) (IsPermutation-refl _)
     (λ l i j a b h. IsPermutation-trans _ _ _ h (flat-swap f l i j a b)) ws p
 
--- what is made of some
+-- what is made of some elements, as lists of one or none
 picked_flat : {X Y : Type 0} (h : X → Option Y) (xs : List X) → flat_map (λ x. cons_option (h x) []) xs ≡ filter_map h xs
 picked_flat h [] = refl
 picked_flat h (x ∷ xs) = grind (arith, (picked_flat h xs))
 
--- moves with it
+-- what is made of some elements moves with them
 pub picked-permutation : {X Y : Type 0} (h : X → Option Y) (xs ys : List X) → IsPermutation xs ys → IsPermutation (filter_map h xs) (filter_map h ys)
 picked-permutation h xs ys permuted = rw (sym (picked_flat h xs), sym (picked_flat h ys)) (flat-permutation (λ x. cons_option (h x) []) xs ys permuted)
 

@@ -120,9 +120,11 @@ date_recorded o h = search rules
 abbrev HasThumb : Option Answer → Type 0
 HasThumb o = IfSome o (λ a. length a.thumb ≡ 32)
 
+-- an answer has a thumbprint, whether it was given before or is now
 first_thumb : (key : List ℕ) (before : Option Answer) (now : Option ℕ) → HasThumb before → HasThumb (earlier before (answer_by key now))
 first_thumb key before now h = search (rules, length-sha256)
 
+-- so each answer has one
 answer_thumbs : (account n : ℕ) (F : History) → HasThumb (answer account n F)
 answer_thumbs account n [] = tt
 answer_thumbs account n (e ∷ F) = first_thumb (account_key account F) (answer account n F) (answering n e.entry e.date) (answer_thumbs account n F)
