@@ -2,7 +2,7 @@
 use Rattle.std.proofs.Common.{◌≡◌, Result, Ok, Err, IsErrAnd, arith}
 use Rattle.store_api.specs.{Sight.IsCaused, Sight.LeavesUnchanged, Sight.Reads, Sight.Sight, Sight.Unchanged, declared.fault.StorageFault.StorageFault}
 use Rattle.store_api.proofs.Readings.{unchanged_both}
-use Rattle.app_reports.specs.{Reported.IsCause, Reported.LeavesRows, Reported.Reports, declared.fault.ReportFault.ReportFault}
+use Rattle.app_reports.specs.{Reported.IsCause, Reported.Reports, declared.fault.ReportFault.ReportFault}
 use Rattle.app_reports.specs.declared.fault.ReportFault.TheVariants as fault
 
 module _ {S C : Type 0} {v : Sight S C} where
@@ -47,7 +47,3 @@ module _ {S C : Type 0} {v : Sight S C} where
   pub look_up_failed : {A B : Type 0} {old mid new : S} {why : StorageFault} (r : Result A ReportFault) → Unchanged v old mid
       → Reads v {R = B} mid new (Err why) → IsErrAnd r (λ e. e ≡ fault.Storage why) → Reports v old new r
   look_up_failed {A} {B} {old} {mid} {new} {why} r unchanged it failed = grind (arith, report_failed, look_up_fault)
-
-  -- the writer's
-  write_fault : {A : Type 0} {old new : S} (why : ReportFault) → LeavesRows why → Unchanged v old new → Reports v {R = A} old new (Err why)
-  write_fault why leaves s = grind arith

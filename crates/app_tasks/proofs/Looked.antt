@@ -4,7 +4,6 @@ use Rattle.app_reports.specs.{Reported.Reports, declared.fault.ReportFault.Repor
 use Rattle.app_reports.specs.declared.fault.ReportFault.TheVariants as reportfault
 use Rattle.app_tasks.specs.Showing.{look_ended}
 use Rattle.desk.specs.{Looking.Looks, declared.looking.LookFault.LookFault}
-use Rattle.desk.specs.declared.looking.LookFault.TheVariants as lookfault
 use Rattle.desk_model.specs.Tables.{Tables}
 use Rattle.store_api.specs.Sight.{ForTables, Sight}
 use Rattle.store_api.specs.declared.fault.StorageFault.TheVariants as storagefault
@@ -36,8 +35,3 @@ module _ {S C : Type 0} (v : Sight S C) {R : Type 0} (old new : S) where
   pub shown_by : (report : Result R ReportFault) (look : Result Unit LookFault) → look ≡ look_ended report → (P : Tables → Type 0)
       → ForTables v old new (λ T. OnOk report (P T)) → ForTables v old new (λ T. OnOk look (P T))
   shown_by report look ends P it = subst (λ l. ForTables v old new (λ T. OnOk l (P T))) (sym ends) (shown report P it)
-
-module _ {S C : Type 0} (v : Sight S C) (old : S) where
-  -- before a report began
-  pub unseen : Looks v old old (Err (lookfault.Storage storagefault.Memory))
-  unseen = record { honest = λ h. h; left = λ h c may. may; tables = tt; after_fault = λ opens h T has. has }

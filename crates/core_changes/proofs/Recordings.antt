@@ -2,9 +2,9 @@
 use Rattle.std.proofs.Common.{◌≡◌, ℕ, ◌+◌, List, [], ◌∷◌, ◌++◌, length, None, Some, Result, OnOk, refl, sym, ap, ◌∙◌, append-nil, append_assoc, arith, rules}
 use Rattle.std.proofs.{lemmas.List.length-append, lemmas.Bool.Decides.nat_tests}
 use Rattle.std.specs.Prelude.{slice_get}
-use Rattle.desk_model.specs.Change.{changes, all_changes, recorded_changes, sweep_changes}
-use Rattle.desk_model.specs.declared.rows.Change.TheVariants.{PutMeta, PutNonce, RemoveNonce, PutAccount, PutOrder}
-use Rattle.desk_model.specs.{Tables.Tables, Terms.Terms, Effect.effect, Effect.effects, Effect.swept, declared.objects.Nonce.Nonce}
+use Rattle.desk_model.specs.Change.{changes, all_changes}
+use Rattle.desk_model.specs.declared.rows.Change.TheVariants.{PutNonce, RemoveNonce, PutAccount, PutOrder}
+use Rattle.desk_model.specs.{Tables.Tables, Effect.effect, Effect.effects, Effect.swept, declared.objects.Nonce.Nonce}
 use Rattle.desk_model.specs.{declared.rows.AccountRow.AccountRow, declared.rows.OrderRow.OrderRow, declared.rows.Change.Change, declared.rows.Counters.Counters}
 use Rattle.desk_model.specs.declared.entry.Entry.{Entry, TheVariants.Issued as issued, TheVariants.Spent as spent, TheVariants.Opened as opened}
 use Rattle.desk_model.specs.declared.status.AccountStatus.TheVariants as account
@@ -26,21 +26,11 @@ clocked : (m : ℕ) (T : Tables) (es : List Entry) → T.meta.counters.clock ≡
 clocked m T [] h = h
 clocked m T (e ∷ es) h = clocked m (effect m T e) es refl
 
--- nothing is recorded but the passing of time
-pub begun : (m : ℕ) (B : Tables) (done : List Change) (counters : Counters) → done ≡ sweep_changes m B
-    → counters ≡ record B.meta.counters { clock = m } → IsRecorded m B [] done counters
-begun m B done counters c r = record { changes = c ∙ sym (append-nil (sweep_changes m B)); counted = r; policy = refl }
-
 -- one more entry is recorded, which leaves the policy
 pub one_more : (m : ℕ) (B : Tables) (es : List Entry) (e : Entry) (done more : List Change) (counters after : Counters) → IsRecorded m B es done counters →
     more ≡ changes m (effects m (swept m B) es) e → after ≡ (effect m (effects m (swept m B) es) e).meta.counters →
     (effect m (effects m (swept m B) es) e).meta.policy ≡ (effects m (swept m B) es).meta.policy → IsRecorded m B (es ++ e ∷ []) (done ++ more) after
 one_more m B es e done more counters after h c r p = search (rules, append_assoc, all_changes-last, effects-last)
-
--- with the meta row at the end, all of it is
-pub finished : (m : ℕ) (B : Tables) (e : Entry) (es : List Entry) (done all : List Change) (counters : Counters) (policy : Terms) → B.meta.policy ≡ policy →
-    all ≡ done ++ PutMeta (record { policy = policy; counters = counters }) ∷ [] → IsRecorded m B (e ∷ es) done counters → all ≡ recorded_changes m B (e ∷ es)
-finished m B e es done all counters policy same put h = search (rules, append_assoc)
 
 -- the clock of what is recorded
 pub clock_is : (m : ℕ) (B : Tables) (es : List Entry) (done : List Change) (counters : Counters) → IsRecorded m B es done counters → counters.clock ≡ m

@@ -1,14 +1,14 @@
 -- The documents of replies are plain: their compact texts read back as them.
-use Rattle.std.proofs.Common.{◌≡◌, ℕ, suc, List, [], ◌∷◌, ◌++◌, filter, Bool, true, Option, refl, ap, arith, rules}
-use Rattle.std.specs.{Prelude.◌&&◌, Prelude.◌==◌, Prelude.codes, List.flat_map, List.slice_split}
+use Rattle.std.proofs.Common.{◌≡◌, ℕ, List, [], ◌∷◌, ◌++◌, filter, Bool, true, refl, ap, arith, rules}
+use Rattle.std.specs.{Prelude.◌&&◌, Prelude.◌==◌, List.flat_map, List.slice_split}
 use Rattle.serde_json.specs.{Data.Data, Data.string, View.items_of}
 use Rattle.desk_model.proofs.PlainData.{each_plain}
-use Rattle.desk_model.specs.Document.{order_with_names, account_document, challenge_url, kind_text, challenge_status_text, error_of, validated}
-use Rattle.desk_model.specs.Document.{challenge_document, authorization_document, orders_document, work_of, challenge_work, order_work_document, order_work}
+use Rattle.desk_model.specs.Document.{order_with_names, account_document}
+use Rattle.desk_model.specs.Document.{authorization_document, orders_document, work_of, challenge_work, order_work_document, order_work}
 use Rattle.desk_model.specs.Document.{key_members, key_document}
 use Rattle.desk_model.specs.{Plain.is_document, Plain.is_plain, Plain.items_are_plain, Plain.members_are_plain, Json.members, Terms.Terms, Name.Name}
-use Rattle.desk_model.specs.{Order.is_processing, Tables.Tables, Tokens.token_text, declared.objects.Report.Report, declared.rows.OrderRow.OrderRow}
-use Rattle.desk_model.specs.{declared.rows.ChallengeRow.ChallengeRow, declared.rows.AuthorizationRow.AuthorizationRow, declared.rows.AccountRow.AccountRow}
+use Rattle.desk_model.specs.{Order.is_processing, Tables.Tables, declared.rows.OrderRow.OrderRow}
+use Rattle.desk_model.specs.{declared.rows.AuthorizationRow.AuthorizationRow, declared.rows.AccountRow.AccountRow}
 
 -- the document of an account
 pub account_plain : (t : Terms) (row : AccountRow) → is_document (account_document t row) ≡ true
@@ -17,19 +17,6 @@ account_plain t row = ap (λ b. b && true) (each_plain 6 string (λ _. refl) row
 -- the document of an order
 pub order_plain : (t : Terms) (names : List Name) (o : OrderRow) → is_document (order_with_names t names o) ≡ true
 order_plain t names o = search (rules, each_plain)
-
-challenge_plain_by : (n : ℕ) (r : Option Report) (s t k u : List ℕ) →
-    members_are_plain (suc (suc n))
-    (members (error_of r ++ (codes "status", string s) ∷ (codes "token", string t) ∷ (codes "type", string k) ∷ (codes "url", string u)
-    ∷ validated r)) ≡ true
-challenge_plain_by n r s t k u = search rules
-
--- the document of a challenge, within others or alone
-challenge_in : (n : ℕ) (t : Terms) (c : ChallengeRow) → is_plain (suc (suc (suc n))) (challenge_document t c) ≡ true
-challenge_in n t c = challenge_plain_by n c.reported (challenge_status_text c.status) (token_text c.token) (kind_text c.kind) (challenge_url t c.number)
-
-pub challenge_plain : (t : Terms) (c : ChallengeRow) → is_document (challenge_document t c) ≡ true
-challenge_plain = challenge_in 5
 
 -- the document of an authorization
 pub authorization_plain : (t : Terms) (a : AuthorizationRow) → is_document (authorization_document t a) ≡ true

@@ -1,13 +1,11 @@
 -- What the documents of authorizations and challenges show.
-use Rattle.std.proofs.Common.{◌≡◌, List, [], ◌∷◌, ◌++◌, map, filter, Bool, true, false, Option, refl, sym, ap, ◌∙◌, arith, rules}
+use Rattle.std.proofs.Common.{◌≡◌, List, [], ◌∷◌, map, filter, Bool, true, false, refl, sym, ap, ◌∙◌, arith, rules}
 use Rattle.std.proofs.lemmas.Simd.{map-map}
-use Rattle.std.specs.{Prelude.is_some, Prelude.codes, Prelude.not, Prelude.◌||◌, List.flat_map, List.list_any}
-use Rattle.serde_json.specs.Data.{Data}
+use Rattle.std.specs.{Prelude.is_some, Prelude.not, Prelude.◌||◌, List.flat_map, List.list_any}
 use Rattle.desk_model.specs.{Terms.Terms, Kept.EachOf, declared.rows.ChallengeRow.ChallengeRow}
-use Rattle.desk_model.specs.declared.{rows.AuthorizationRow.AuthorizationRow, objects.Report.Report}
-use Rattle.desk_model.specs.Document.{error_of, validated, challenge_document, or_all, shown_challenges}
-use Rattle.core_replies.specs.Shown.{capped_challenge, capped_authorization, challenge_members, HasDatedReport, HasMoments, shown_challenge}
-use Rattle.core_replies.specs.Texts.{AreInOrder}
+use Rattle.desk_model.specs.declared.{rows.AuthorizationRow.AuthorizationRow}
+use Rattle.desk_model.specs.Document.{challenge_document, or_all, shown_challenges}
+use Rattle.core_replies.specs.Shown.{capped_challenge, capped_authorization, HasDatedReport, HasMoments, shown_challenge}
 use Rattle.core_replies.proofs.{Gathered.passing-show-one}
 
 -- ---- moments that have a text are shown as they are
@@ -46,14 +44,6 @@ pub challenges-shown : (t : Terms) (rows : List ChallengeRow) (reported : Bool) 
 challenges-shown t rows reported is =
     passing-show-one (λ c. challenge_document t (capped_challenge c)) (λ c. not reported || is_some c.reported) rows
     ∙ ap (map (λ c. challenge_document t (capped_challenge c))) (or_all-filtered (λ c. is_some c.reported) rows reported is)
-
-challenge_in_order-of : (r : Option Report) (s t k u : Data) →
-    AreInOrder (error_of r ++ (codes "status", s) ∷ (codes "token", t) ∷ (codes "type", k) ∷ (codes "url", u) ∷ validated r)
-challenge_in_order-of r s t k u = grind arith
-
--- the members of a challenge stand in the order of their names
-pub challenge_in_order : (t : Terms) (c : ChallengeRow) → AreInOrder (challenge_members t c)
-challenge_in_order t c = challenge_in_order-of c.reported _ _ _ _
 
 reported-capped : (cs : List ChallengeRow) → filter (λ c. is_some c.reported) (map capped_challenge cs)
     ≡ map capped_challenge (filter (λ c. is_some c.reported) cs)

@@ -136,11 +136,6 @@ document_reads d ts text plain has written reads =
 pub member_is : {a b : List Token} {name s t : List ℕ} → s ≡ t → HasMembers a b ((name, string s) ∷ []) → HasMembers a b ((name, string t) ∷ [])
 member_is {a} {b} {name} same = subst (λ u. HasMembers a b ((name, string u) ∷ [])) same
 
--- another number
-pub number_is : {a b : List Token} {name : List ℕ} {m n : ℕ} → m ≡ n → HasMembers a b ((name, number (unsigned m)) ∷ [])
-    → HasMembers a b ((name, number (unsigned n)) ∷ [])
-number_is {a} {b} {name} same = subst (λ k. HasMembers a b ((name, number (unsigned k)) ∷ [])) same
-
 -- a list of other values
 pub list_is : {a b : List Token} {name : List ℕ} {ds es : List Data} → ds ≡ es → HasMembers a b ((name, list ds) ∷ [])
     → HasMembers a b ((name, list es) ∷ [])

@@ -1,9 +1,8 @@
 -- Verdicts on signed requests, by the account of the request's key.
-use Rattle.std.proofs.Common.{◌≡◌, ℕ, List, [], true, false, sym, ap, subst, ◌∙◌}
+use Rattle.std.proofs.Common.{◌≡◌, ℕ, List, [], true, false, ap}
 use Rattle.desk_model.specs.{Rules.holder_verdict, Rules.target_verdict, Tables.Tables, Account.is_valid, declared.call.Target.Target}
-use Rattle.desk_model.specs.{declared.refusal.Refusal.Refusal, declared.rows.AccountRow.AccountRow, declared.rows.Counters.Counters}
-use Rattle.desk_model.specs.{declared.verdict.Verdict.Verdict, declared.verdict.Verdict.TheVariants.Refused as refused, Verdict.check}
-use Rattle.core_rules.specs.Needs.{NumbersLeft, BytesLeft}
+use Rattle.desk_model.specs.{declared.rows.AccountRow.AccountRow}
+use Rattle.desk_model.specs.{declared.verdict.Verdict.TheVariants.Refused as refused, Verdict.check}
 use Rattle.desk_model.specs.declared.refusal.Refusal.TheVariants as refusal
 pub use Rattle.core_rules.specs.Needs.{IsJudged}
 
@@ -18,8 +17,3 @@ pub holder-ended : (T : Tables) (r p : List ℕ) (t : Target) (a : AccountRow) �
     holder_verdict T r p t a ≡ refused refusal.Unauthorized []
 unfolding check
 holder-ended T r p t a is = ap (λ b. check b refusal.Unauthorized (target_verdict T r a.number p t)) is
-
--- a refusal needs neither numbers nor random bytes
-pub refused-judged : (C : Counters) (random : List ℕ) (why : Refusal) (v asked : Verdict) → v ≡ refused why [] → asked ≡ refused why [] →
-    (v ≡ asked) × NumbersLeft C v × BytesLeft random v
-refused-judged C random why v asked is so = (is ∙ sym so, subst (NumbersLeft C) (sym is) tt, subst (BytesLeft random) (sym is) tt)

@@ -4,5 +4,4 @@ pub mod Looking
 pub mod NamesWanted
 pub mod OpenNonces
 pub mod OrderNeeds
-pub mod Reports
 pub mod Sparing

@@ -1,21 +1,19 @@
 -- The exits of a call over an open store.
-use Rattle.std.proofs.Common.{◌≡◌, ℕ, ◌<◌, List, [], ◌∷◌, Some, refl, sym, subst, Result, Ok, Err, inl, inr, arith, true, false, rules}
+use Rattle.std.proofs.Common.{◌≡◌, ℕ, ◌<◌, List, [], ◌∷◌, refl, sym, subst, Result, Ok, Err, inl, inr, arith, true, false, rules}
 use Rattle.std.proofs.lemmas.Bool.{eqb-true}
 use Rattle.std.specs.Prelude.{nat_eq, length, ◌↔◌, IsErrAnd}
-use Rattle.desk_model.specs.{Entry.History, Change.applied, Limits.last_moment, Decide.after, Legal.Legal, Run.IsFormedCall, Run.fault, Tables.Tables}
+use Rattle.desk_model.specs.{Entry.History, Change.applied, Limits.last_moment, Decide.after, Legal.Legal, Run.IsFormedCall, Tables.Tables}
 use Rattle.desk_model.specs.{Tables.picture, declared.call.Call.Call, declared.reply.Reply.Reply, declared.rows.Change.Change}
 use Rattle.model_lives.specs.IsEnough.{IsEnoughFor}
 use Rattle.store_laws.proofs.FlatTexts.{picture_is_stored_book}
-use Rattle.desk_core.specs.Decided.{IsDecision, IsFaultOf}
+use Rattle.desk_core.specs.Decided.{IsDecision}
 use Rattle.core_rules.specs.declared.fault.CoreFault.{CoreFault}
-use Rattle.core_rules.specs.declared.fault.CoreFault.TheVariants as core
 use Rattle.identifiers.specs.declared.parsed.CallFault.{CallFault}
 use Rattle.identifiers.specs.declared.parsed.CallFault.TheVariants as callfault
-use Rattle.store_api.proofs.Readings.{unchanged_both, unchanged_here, unchanged_read}
+use Rattle.store_api.proofs.Readings.{unchanged_both, unchanged_read}
 use Rattle.store_api.specs.Storing.{Fit, IsCutFrom, Loads, SavesFrom}
 use Rattle.store_api.specs.{Sight.Sight, Sight.Keeps, Sight.Unchanged, declared.fault.StorageFault.StorageFault}
 use Rattle.store_api.specs.declared.fault.StorageFault.TheVariants as storagefault
-use Rattle.desk.proofs.Running.{declines}
 use Rattle.desk.specs.Answers.{Answers, ExitsBy, IsAnswered, IsBroken, is_closed_after}
 use Rattle.desk.specs.{declared.fault.DeskFault.DeskFault, Faults.call_fault, Faults.closes, Faults.core_fault, Faults.storage_fault}
 use Rattle.desk.specs.declared.fault.DeskFault.TheVariants as deskfault
@@ -59,10 +57,6 @@ read_in_time read at late past = let so = late.1 past in cc so
 pub unread_open : (e : CallFault) (result : Result Reply DeskFault) → Faults result (call_fault e) → false ≡ is_closed_after result
 unread_open e result h = search rules
 
--- a moment above the last is a fault of the call
-late_fault : (F : History) (call : Call) → last_moment < call.at → fault F call ≡ Some 24
-late_fault F call late = search rules
-
 -- a call of the store that failed
 abbrev pub failed : (R : Type 0) → StorageFault → Result R StorageFault
 failed R why = Err why
@@ -90,11 +84,6 @@ module _ {S C : Type 0} (v : Sight S C) where
   unwritten R old new part changes cause s going = absurd (cc going)
 
   -- ---- exits, by a history
-
-  -- the call is declined
-  is_declined : (F : History) (call : Call) (new : S) (e : CoreFault) → IsFaultOf F call e → Keeps v new (picture F) → ExitsBy v F call (core_fault e) new
-  is_declined F call new core.Memory is keeps = record { cause = tt; keeps = keeps }
-  is_declined F call new e is keeps = record { cause = is; keeps = keeps }
 
   -- the store keeps the tables with the changes
   answers : (F : History) (call : Call) (new : S) (changes : List Change) (reply : Reply) → IsDecision F call changes reply →
@@ -126,42 +115,6 @@ module _ {S C : Type 0} (v : Sight S C) where
   -- what a decision by the book says
   abbrev pub Decides : Call → Tables → List Change → Reply → Type 0
   Decides call book changes reply = (F : History) → Legal F → IsEnoughFor call (picture F) book → IsDecision F call changes reply
-
-  -- what a refusal by the book says
-  abbrev pub Refuses : Call → Tables → CoreFault → Type 0
-  Refuses call book e = (F : History) → Legal F → IsEnoughFor call (picture F) book → IsFaultOf F call e
-
-  -- a call past the last moment
-  late_declines : (call : Call) (here : S) → IsFormedCall call → last_moment < call.at → Answers v call here here (Err deskfault.Moment)
-  late_declines call here formed late = record {
-    formed = formed;
-    honest = λ h. h;
-    unchanged = λ opened. unchanged_here;
-    exit = λ h F legal keeps. record { cause = late_fault F call late; keeps = keeps };
-  }
-
-  -- the call is not read: it is too late, or memory was refused
-  pub unread : (call : Call) (here : S) (e : CallFault) (result : Result Reply DeskFault) → IsFormedCall call →
-      (e ≡ callfault.Moment → last_moment < call.at) → Faults result (call_fault e) → Answers v call here here result
-  unread call here e (Ok reply) formed late is = absurd is
-  unread call here callfault.Memory (Err why) formed late is =
-      subst (λ w. Answers v call here here (Err w)) (sym is) (declines v call here formed)
-  unread call here callfault.Moment (Err why) formed late is =
-      subst (λ w. Answers v call here here (Err w)) (sym is) (late_declines call here formed (late refl))
-
-  -- the decision is a fault
-  pub refused : (call : Call) (old new : S) (book : Tables) (e : CoreFault) (result : Result Reply DeskFault) → IsFormedCall call →
-      Loads v call old new (Ok book) → Refuses call book e → Faults result (core_fault e) → Answers v call old new result
-  refused call old new book e (Ok reply) formed l refuses is = absurd is
-  refused call old new book e (Err why) formed l refuses is =
-      record {
-        formed = formed;
-        honest = l.reads.honest;
-        unchanged = λ going. unchanged_read l.reads;
-        exit =
-            λ h F legal keeps. subst (λ w. ExitsBy v F call w new) (sym is)
-            (is_declined F call new e (refuses F legal (l.part h F legal keeps.tables)) (keeps_on old new (picture F) h (unchanged_read l.reads) keeps));
-      }
 
   -- the decision changes nothing
   pub answered_alone : (call : Call) (old new : S) (book : Tables) (changes : List Change) (reply : Reply) → IsFormedCall call →

@@ -1,15 +1,10 @@
 -- What each arm of a verdict records and shows is what the verdict does.
-use Rattle.std.proofs.Common.{◌≡◌, ◌++◌, ◌∷◌, ℕ, true, false, List, Result, OnOk, ap, rules}
+use Rattle.std.proofs.Common.{◌≡◌, ℕ, true, Result, OnOk, ap, rules}
 use Rattle.model_laws.specs.Ordered.{IsOrdered}
 use Rattle.desk_model.specs.{Decide.entries_of, Decide.verdict_reply, Effect.effects, Effect.swept, Tables.Tables, declared.rows.Counters.Counters}
-use Rattle.desk_model.specs.{declared.entry.Entry.Entry, declared.reply.Reply.Reply, declared.rows.Change.Change, declared.verdict.Verdict.Verdict}
-use Rattle.core_changes.specs.Recorded.{IsAt, IsRecorded, IsUntouched}
+use Rattle.desk_model.specs.{declared.reply.Reply.Reply, declared.verdict.Verdict.Verdict}
+use Rattle.core_changes.specs.Recorded.{IsAt}
 use Rattle.desk_core.specs.HasTexts.{HasTexts}
-
--- these changes and counters come of the verdict
-abbrev pub Records : Tables → List Change → Counters → List Change → Counters → Verdict → Type 0
-Records B done C after D v =
-    (m : ℕ) (es : List Entry) → IsOrdered B → IsUntouched m B es → IsRecorded m B es done C → IsRecorded m B (es ++ entries_of v) after D
 
 -- the reply is that of the verdict
 abbrev pub Replies : Tables → Counters → Verdict → Reply → Type 0
@@ -24,7 +19,3 @@ clock_at m B C at = ap (λ (D : Counters). D.clock) at
 -- what holds however a call ended holds where it was answered
 pub where_answered : {X E P : Type 0} (r : Result X E) → P → OnOk r P
 where_answered r h = search rules
-
--- the link to the directory is no matter where something is recorded
-pub linked : (T : Tables) (v : Verdict) (e : Entry) (es : List Entry) → entries_of v ≡ e ∷ es → verdict_reply true T v ≡ verdict_reply false T v
-linked T v e es h = search rules

@@ -1,12 +1,12 @@
 -- From what was read to what is served.
 use Rattle.std.proofs.Common.{◌≡◌, ℕ, List, Option, Some, None, Result, Ok, arith}
-use Rattle.std.specs.{Prelude.IfSome, declared.alloc.AllocError.AllocError}
+use Rattle.std.specs.{Prelude.IfSome}
 use Rattle.desk_model.specs.declared.reply.Reply.{Reply}
 use Rattle.store_api.specs.{Sight.Sight, Storing.Causes}
 use Rattle.desk.specs.{State.DeskState, declared.fault.DeskFault.DeskFault}
 use Rattle.http_routes.specs.declared.request.Request.{Request}
 use Rattle.http_wire.specs.{Spelled.IsReplyForm, Spelled.Spells, declared.call.ParsedRequest.ParsedRequest}
-use Rattle.desk_http.specs.Serving.{Fails, HasAnswer, IsParsedOf, LacksReply, LacksText, ReadAnswer}
+use Rattle.desk_http.specs.Serving.{Fails, HasAnswer, IsParsedOf, LacksText, ReadAnswer}
 use Rattle.desk_http.specs.declared.serving.Unanswered.{Unanswered}
 
 -- the request that was read is the input's
@@ -17,12 +17,6 @@ spelled remaining h q is e = grind (arith, None, Some)
 -- and so is how its reply is written
 pub form_parsed : (remaining : Option (List ℕ)) (h : ParsedRequest) → IsParsedOf remaining h → IfSome remaining (λ input. IsReplyForm input h.form)
 form_parsed remaining h is = grind (arith, None, Some)
-
--- why a request that was read has no reply is why it has no text
-pub no_text : {S C : Type 0} (v : Sight S C) (causes : Causes S) (at : ℕ) (random : List ℕ) (read : Result Request AllocError)
-    (q : Request) (old new : DeskState S) (why : Unanswered) → read ≡ Ok q → LacksReply v causes at random q why old new
-    → LacksText v causes at random read why old new
-no_text v causes at random read q old new why e l = grind arith
 
 module _ {S C : Type 0} (v : Sight S C) (causes : Causes S) (at : ℕ) (random : List ℕ) (remaining : Option (List ℕ)) (h : ParsedRequest) where
   -- the answer to what was read is the answer to the input

@@ -1,5 +1,5 @@
 -- What is shown, copied in pieces.
-use Rattle.std.proofs.Common.{◌≡◌, ◌≢◌, ◌∙◌, ◌<◌, ◌+◌, ◌-◌, ◌++◌, ℕ, Bool, false, List, [], Option, Result, Ok, Err, ap, append_assoc, arith, drop, length}
+use Rattle.std.proofs.Common.{◌≡◌, ◌≢◌, ◌∙◌, ◌<◌, ◌+◌, ◌-◌, ◌++◌, ℕ, false, List, [], Option, Result, Ok, Err, ap, append_assoc, arith, drop, length}
 use Rattle.std.proofs.Common.{take, take-append-drop, subst, sym}
 use Rattle.std.proofs.{KnownBytes.Appends-trans, KnownBytes.Consumes-trans, lemmas.List.drop_at, lemmas.List.length-append}
 use Rattle.std.specs.{Prelude.OnErr, Io.KnownBytes.Appends, Io.KnownBytes.Consumes, Io.KnownBytes.IsAtEnd}
@@ -71,11 +71,6 @@ all_long last text piece first input mid left was is same read room it = (
   },
   (λ no. cc, λ is. absurd (not_text piece it.bytes it.shown last text it.whole room is)),
 )
-
--- and the head before it
-pub all_behind : (head last text : List ℕ) (input mid left was is : Option (List ℕ)) (is_text : Bool) → Consumes input mid head
-    → CopiesAll [] last text mid left was is is_text → CopiesAll head last text input left was is is_text
-all_behind head last text input mid left was is is_text read it = grind (arith, Consumes-trans)
 
 -- what has other bytes at its end does not end with the last line
 pub no_last : (end rest last : List ℕ) (n : ℕ) → n ≡ length end - length last → rest ≡ drop n end → (rest ≡ last → ⊥) → (shown : List ℕ)

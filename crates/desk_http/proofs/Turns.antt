@@ -2,7 +2,7 @@
 use Rattle.std.proofs.Common.{◌≡◌, ◌<◌, Err, ℕ, ◌+◌, Bool, true, Option, None, Some, add-one, false, arith, refl}
 use Rattle.store_api.specs.{Sight.Sight, Storing.Causes}
 use Rattle.desk.specs.{State.DeskState, declared.fault.DeskFault.DeskFault}
-use Rattle.desk_http.specs.InTurn.{IsOfMachine, ServesConnections, ServesFewer, ServesMany, ServesNext, ServesOne, ended_by}
+use Rattle.desk_http.specs.InTurn.{ServesConnections, ServesFewer, ServesMany, ServesNext, ServesOne, ended_by}
 use Rattle.desk_http.specs.{Logged.LogEntry, Showing.Shower, declared.overseeing.Watch.Watch, declared.serve_fault.ServeFault.ServeFault}
 use Rattle.desk_http.specs.declared.serve_fault.ServeFault.TheVariants as servefault
 
@@ -53,8 +53,3 @@ module _ {S C : Type 0} (v : Sight S C) (causes : Causes S) (hook : Shower S) {O
   pub serves_next : (why : Option DeskFault) (kept : Bool) (old new : DeskState S) (was is : Watch O) → ServesOne v causes hook takes why kept old was new is
       → ServesNext v causes hook takes old was new is (ended_by why kept)
   serves_next why kept old new was is one = grind (arith, Some, None, true, false)
-
-  -- where the machine failed nothing was done
-  pub machine_fails : (e : ServeFault) (old new : DeskState S) (was is : Watch O) → IsOfMachine e → new ≡ old → is.overseer ≡ was.overseer
-      → ServesNext v causes hook takes old was new is (Err e)
-  machine_fails e old new was is h5 same kept = grind arith

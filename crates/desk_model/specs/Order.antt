@@ -95,7 +95,3 @@ is_ready _ = false
 abbrev pub is_processing : OrderStatus → Bool
 is_processing order.Processing = true
 is_processing _ = false
-
-abbrev pub is_valid_order : OrderStatus → Bool
-is_valid_order order.Valid = true
-is_valid_order _ = false

@@ -1,8 +1,7 @@
 -- From the value of a line to its bytes, and the parts of a reply's line.
 use Rattle.std.proofs.Common.{◌≡◌, ◌++◌, ℕ, List, Some, Result, MatchResult, append_assoc, subst, arith}
-use Rattle.std.specs.Prelude.{IsUtf8, None, codes}
+use Rattle.std.specs.Prelude.{IsUtf8, codes}
 use Rattle.serde_json.specs.{Data.Data, Read.read}
-use Rattle.http_routes.specs.{Envelopes.Envelope, Envelopes.IsEnvelopeText}
 use Rattle.http_routes.specs.{declared.lines.Line.Line, declared.lines.LineFault.LineFault, Lines.IsLine, Lines.IsNoLine, Lines.Spells, Lines.SpellsNone}
 use Rattle.http_routes.specs.declared.lines.LineFault.TheVariants as linefault
 
@@ -20,10 +19,6 @@ spells_none bytes d linefault.Memory is_d none = tt
 pub spells_or_none : (bytes : List ℕ) (d : Data) (r : Result Line LineFault) → IsUtf8 bytes → read bytes ≡ Some d
     → MatchResult r (λ l. IsLine d l) (λ fault. IsNoLine d fault) → MatchResult r (λ l. Spells bytes l) (λ fault. SpellsNone bytes fault)
 spells_or_none bytes d r utf8 is_d h = grind (arith, spells_none)
-
--- what is no JSON is no envelope
-pub unread : (text : List ℕ) → read text ≡ None → (e : Envelope) → IsEnvelopeText text e → ⊥
-unread text none e h = let some = h.read in absurd (cc (none, some))
 
 -- four parts of a line, with a space between them
 pub spaced : (a b c d : List ℕ) → a ++ (codes " " ++ (b ++ (codes " " ++ (c ++ (codes " " ++ d))))) ≡ a ++ codes " " ++ b ++ codes " " ++ c ++ codes " " ++ d

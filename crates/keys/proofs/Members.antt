@@ -1,12 +1,8 @@
 -- What the members of a key's value say of its text.
-use Rattle.std.proofs.Common.{◌≡◌, ℕ, Bool, List, Option, Some, None, rules}
+use Rattle.std.proofs.Common.{◌≡◌, ℕ, List, Option, Some, None, rules}
 use Rattle.std.specs.Prelude.{IsTrue, option_and_then, if◌then◌else◌}
 use Rattle.serde_json.specs.Data.{Data}
 use Rattle.desk_model.specs.Keys.{Key, IsKey, IsKeyText, canonical_text, is_number_text, number_member, text_member}
-
--- a number that is kept has the form of one
-kept : (s x : List ℕ) (b : Bool) → is_number_text s ≡ b → (if is_number_text s then Some s else None) ≡ Some x → IsTrue (is_number_text x)
-kept s x b h k = search rules
 
 -- the same, of a string that may be absent
 number_by : (o : Option (List ℕ)) (x : List ℕ) → option_and_then (λ s. if is_number_text s then Some s else None) o ≡ Some x → IsTrue (is_number_text x)

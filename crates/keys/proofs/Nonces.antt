@@ -1,5 +1,5 @@
 -- Decoding into 24 bytes is the inverse of the text of a nonce.
-use Rattle.std.proofs.Common.{◌≡◌, ℕ, zero, suc, drop, ◌*◌, ◌/◌, ◌%◌, ◌<◌, Bool, false, List, [], ◌∷◌, ◌++◌, length, refl, ap, ◌∙◌, arith, Option, None, rules}
+use Rattle.std.proofs.Common.{◌≡◌, ℕ, drop, ◌*◌, ◌/◌, Bool, false, List, ◌++◌, length, refl, ap, ◌∙◌, Option, None, rules}
 use Rattle.std.proofs.lemmas.List.{append-nil}
 use Rattle.std.specs.{Prelude.nat_lt, Prelude.replicate, Prelude.if◌then◌else◌, declared.result.Result.Result, declared.result.Result.TheVariants.Ok}
 use Rattle.std.specs.{declared.result.Result.TheVariants.Err, Int.w64, Int.to_be_bytes}
@@ -62,22 +62,6 @@ nonce_decodes b h bytes =
     let whole : decode_of url_safe_no_pad (base64url b) ≡ Ok b = decode_of-encode_of url_safe_no_pad b refl bytes in
     let r = slice_of_decode url_safe_no_pad (base64url b) b 24 whole (rw (length-base64url b h) refl) (rw h refl) in
     let ok : ℕ → Result ℕ DecodeSliceError = λ n. Ok n in r ∙ ap ok h
-
--- a byte is below 256
-mod_byte : (n : ℕ) → n % 256 < 256
-mod_byte n = omega arith
-
--- eight bytes
-eight : (a b c d e f g h : ℕ) → IsBytes (a % 256 ∷ b % 256 ∷ c % 256 ∷ d % 256 ∷ e % 256 ∷ f % 256 ∷ g % 256 ∷ h % 256 ∷ [])
-eight a b c d e f g h zero = mod_byte a
-eight a b c d e f g h (suc zero) = mod_byte b
-eight a b c d e f g h (suc (suc zero)) = mod_byte c
-eight a b c d e f g h (suc (suc (suc zero))) = mod_byte d
-eight a b c d e f g h (suc (suc (suc (suc zero)))) = mod_byte e
-eight a b c d e f g h (suc (suc (suc (suc (suc zero))))) = mod_byte f
-eight a b c d e f g h (suc (suc (suc (suc (suc (suc zero)))))) = mod_byte g
-eight a b c d e f g h (suc (suc (suc (suc (suc (suc (suc zero))))))) = mod_byte h
-eight a b c d e f g h (suc (suc (suc (suc (suc (suc (suc (suc i)))))))) = omega arith
 
 -- what was decoded is what the text spells
 pub nonce_of_decoded : (s new r : List ℕ) (n : ℕ) → IsBytes s → decode_slice_of url_safe_no_pad s 24 ≡ Ok 24

@@ -1,7 +1,7 @@
 -- What entries are added to keeps its numbers in their limits.
 use Rattle.std.proofs.{Common.ℕ, Common.List, Common.[], Common.◌∷◌, Common.arith, Common.length-append, lemmas.Bool.Decides.nat_tests}
 use Rattle.std.specs.Prelude.{IsTrue}
-use Rattle.desk_model.specs.Legal.{BeginsMade, Legal, numbers_fit}
+use Rattle.desk_model.specs.Legal.{Legal, numbers_fit}
 use Rattle.desk_model.specs.{Entry.History, declared.entry.Dated.Dated, declared.entry.Entry.Entry, History.record_all}
 use Rattle.model_laws.proofs.{Numbers.count-append, Step.follows_before}
 
@@ -13,10 +13,6 @@ fitted e F h = grind (arith, nat_tests, length-append, count-append)
 fitted_all : (m : ℕ) (es : List Entry) (F : History) → IsTrue (numbers_fit (record_all m es F)) → IsTrue (numbers_fit F)
 fitted_all m [] F h = h
 fitted_all m (e ∷ es) F h = fitted (record { date = m; entry = e }) F (fitted_all m es (record { date = m; entry = e } ∷ F) h)
-
--- an entry later the first is still the making of the desk
-pub begun : (e : Dated) (F : History) → BeginsMade F → BeginsMade (e ∷ F)
-begun e F h = grind arith
 
 -- between a legal history and a longer one, each is legal
 pub legal_between : (F : History) (e : Entry) (es : List Entry) (m : ℕ) → Legal F → Legal (record_all m (e ∷ es) F) →

@@ -1,5 +1,5 @@
 -- Facts that entries state.
-use Rattle.std.proofs.Common.{◌≡◌, ◌≤◌, ℕ, arith, [], ◌∷◌, Option, Some, None, false, Bool, cond}
+use Rattle.std.proofs.Common.{◌≡◌, ◌≤◌, ℕ, arith, [], ◌∷◌, Option, false}
 use Rattle.std.specs.Prelude.{IfSome, unwrap_or}
 use Rattle.desk_model.specs.History.{clock, earlier, first, latest}
 use Rattle.desk_model.specs.{Change.is_gained, Entry.History, Kept.EachOf, declared.entry.Dated.Dated}
@@ -22,10 +22,6 @@ latest_holds P fact (e ∷ F) h = earlier_holds P (fact e) (latest fact F) h.0 (
 -- what holds of the fact, if there is one, and of the value at making, holds of the value now
 pub now_holds : {X : Type 0} (P : X → Type 0) (o : Option X) (x : X) → IfSome o P → P x → P (unwrap_or o x)
 now_holds P o x h k = grind arith
-
--- a fact that is stated under a condition
-pub stated : {X : Type 0} (P : X → Type 0) (b : Bool) (x : X) → P x → IfSome (cond b (Some x) None) P
-stated P b x h = grind arith
 
 -- no entry is dated after the latest recorded moment
 entries_dated : (F : History) → EachOf (λ e. e.date ≤ clock F) F

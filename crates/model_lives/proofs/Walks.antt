@@ -1,8 +1,8 @@
 -- Each verdict: what it records is kept, and what it shows is shown by the part as by the whole.
-use Rattle.std.proofs.Common.{◌≡◌, ℕ, ◌+◌, List, [], Option, Some, None, refl, ap, subst, ◌∙◌, true, false, Bool, not, arith, rules}
+use Rattle.std.proofs.Common.{◌≡◌, ℕ, ◌+◌, List, [], Option, Some, None, refl, ap, subst, ◌∙◌, true, false, Bool, arith, rules}
 use Rattle.std.proofs.lemmas.Bool.{eqb-true, or_left}
 use Rattle.std.specs.{Prelude.◌==◌, Prelude.cond, Prelude.option_and_then, List.list_any}
-use Rattle.desk_model.specs.Rules.{nothing, office_verdict, signed_verdict, subproblems, wanted, kept as kept_in, names_in, names_asked, names_of}
+use Rattle.desk_model.specs.Rules.{office_verdict, signed_verdict, subproblems, wanted, kept as kept_in, names_in, names_asked, names_of}
 use Rattle.desk_model.specs.Asked.{has_key, asks_authorizations, asks_orders, names_account, target_names}
 use Rattle.desk_model.specs.declared.entry.Entry.TheVariants.{Failed as failed, ContactsChanged as contacts_changed, AuthorizationEnded as authorization_ended}
 use Rattle.desk_model.specs.declared.entry.Entry.TheVariants.{Opened as opened}
@@ -11,8 +11,8 @@ use Rattle.desk_model.specs.declared.entry.Entry.TheVariants.{Ordered as ordered
 use Rattle.desk_model.specs.{Effect.effect, declared.verdict.Verdict.TheVariants.Orders as orders, declared.entry.Ending.TheVariants.Deactivated as deactivated}
 use Rattle.desk_model.specs.{Effect.lists_one, Legal.has_length, Questions.account_on, Limits.most_names, Touched.is_named_account, declared.call.Ask.Ask}
 use Rattle.desk_model.specs.{Effect.swept, Lookup.holds, Name.Name, Tables.Tables, Kept.Covers, Kept.EachOf, Kept.Kept}
-use Rattle.desk_model.specs.{Payload.authorization_change, Touched.is_own_authorization, declared.verdict.Verdict.Verdict, declared.entry.Ending.Ending}
-use Rattle.desk_model.specs.{Payload.challenge_change, Payload.new_order, declared.entry.Entry.Entry, declared.entry.Wanted.Wanted, declared.call.Target.Target}
+use Rattle.desk_model.specs.{Touched.is_own_authorization, declared.verdict.Verdict.Verdict, declared.entry.Ending.Ending}
+use Rattle.desk_model.specs.{Payload.new_order, declared.entry.Entry.Entry, declared.entry.Wanted.Wanted, declared.call.Target.Target}
 use Rattle.desk_model.specs.{Derived.numbers_of, declared.call.OfficeAsk.OfficeAsk, declared.payload.Identifier.Identifier, declared.rows.AccountRow.AccountRow}
 use Rattle.desk_model.specs.{declared.call.Signed.Signed, declared.rows.AuthorizationRow.AuthorizationRow, declared.entry.Ending.TheVariants.Revoked as revoked}
 use Rattle.model_laws.proofs.{Basics.each, Basics.each_all, SweptParts.swept_closed, Plain.fresh_kept, Plain.nothing_touched, Finds.each_found}
@@ -27,8 +27,6 @@ use Rattle.model_laws.specs.Parts.{ReusedKept}
 use Rattle.desk_model.specs.declared.call.Ask.TheVariants as ask
 use Rattle.desk_model.specs.declared.call.OfficeAsk.TheVariants as office
 use Rattle.desk_model.specs.declared.call.Target.TheVariants as to
-use Rattle.desk_model.specs.declared.payload.AuthorizationChange.TheVariants as authz_change
-use Rattle.desk_model.specs.declared.payload.ChallengeChange.TheVariants as chall_change
 
 -- ---- what entries touch
 
@@ -36,13 +34,6 @@ use Rattle.desk_model.specs.declared.payload.ChallengeChange.TheVariants as chal
 ended_named : (T : Tables) (a : Ask) (n : ℕ) (ending : Ending) → names_account a n ≡ true → changes_statuses a ≡ true →
     ((r : AuthorizationRow) → (n == r.account) ≡ true → is_own_authorization T a r ≡ true) → IsNamedBy T a (account_ended n ending)
 ended_named T a n ending named ends owned = grind arith
-
--- a payload that changes something is not empty
-authorization_moves : (p : List ℕ) → authorization_change p ≡ Some authz_change.Deactivate → not (nothing p) ≡ true
-authorization_moves p h = grind arith
-
-challenge_moves : (p : List ℕ) → challenge_change p ≡ Some chall_change.Answer → not (nothing p) ≡ true
-challenge_moves p h = grind arith
 
 -- ---- parts of what is ready
 

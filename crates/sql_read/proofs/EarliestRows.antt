@@ -3,11 +3,11 @@ use Rattle.std.proofs.Common.{◌≡◌, ◌≤◌, ◌||◌, ℕ, pos, Bool, tr
 use Rattle.std.proofs.Common.{◌∙◌, arith, zero-le, rules}
 use Rattle.std.proofs.lemmas.List.Sorted.{IsPermutation-sym, list_any-IsPermutation, ranks_by, sorted_far}
 use Rattle.std.proofs.{lemmas.Bool.eq-eqb, lemmas.Bool.Decides.nat_tests, lemmas.List.map-id, lemmas.List.Elements.recursion_from_All, lemmas.Simd.map-map}
-use Rattle.std.specs.Prelude.{◌==◌, nat_lt, option_map, Result, Ok, Err, IfErr, IfOk, IsErrAnd}
+use Rattle.std.specs.Prelude.{◌==◌, nat_lt, option_map}
 use Rattle.std.specs.{List.All, List.AllByRecursion, List.list_any, List.Sorted.IsPermutation, List.Sorted.IsSorted, Ordering.is_eq, Ordering.is_lt}
 use Rattle.std.specs.{Ordering.ordering_then}
-use Rattle.sqlite.specs.State.{State, FailsToQuery, HasCleanDisk, IsUnchanged, Shown}
-use Rattle.sqlite.specs.{declared.types.Value.TheVariants.Int, Held.Held, Held.state, declared.error.Error.Error, Store.Ghosts}
+use Rattle.sqlite.specs.State.{State, Shown}
+use Rattle.sqlite.specs.{declared.types.Value.TheVariants.Int, Held.Held, Held.state, Store.Ghosts}
 use Rattle.sqlite_value.specs.Order.{Row}
 use Rattle.sqlite_value.proofs.OrderLemmas.{value_cmp-Int}
 use Rattle.sqlite_trees.specs.Tree.{Trees}
@@ -20,16 +20,15 @@ use Rattle.desk_model.specs.{declared.objects.Nonce.Nonce, declared.status.Authz
 use Rattle.model_lives.specs.Above.{first_of}
 use Rattle.sql_tables.specs.{Holds.Holds, Layouts.HasRows, Layouts.Layout, Layouts.authorization_layout, Layouts.nonce_layout, Layouts.order_layout}
 use Rattle.sql_tables.proofs.{Holding.authorizations_held, Holding.nonces_held, Holding.orders_held, Keyed.three}
-use Rattle.sql_read.specs.Earliest.{FindsEarliest, IsEarliest, TellsEarliest, authorization_ends, first_number, issues, order_ends}
-use Rattle.sql_read.specs.LookUpFaults.{BeginWithMoment, IsOfMemory, IsOfMemoryOrDisk}
-use Rattle.sql_read.specs.{Failures.IsMet, declared.fault.ReadFault.ReadFault, declared.fault.ReadFault.TheVariants.Engine}
-use Rattle.sql_schema.specs.{Stays.Asks, Schema.desk_schema}
+use Rattle.sql_read.specs.Earliest.{FindsEarliest, IsEarliest, authorization_ends, first_number, issues, order_ends}
+use Rattle.sql_read.specs.LookUpFaults.{BeginWithMoment}
+use Rattle.sql_schema.specs.{Schema.desk_schema}
 use Rattle.sql_schema.specs.declared.authorizations.TheConstants as authz
 use Rattle.sql_schema.specs.declared.nonces.TheConstants as nonce
 use Rattle.sql_schema.specs.declared.orders.TheConstants as ord
 use Rattle.sql_read.proofs.Answered.{IsOrderedAs, IsReading, answers_from, by, first_row, matched, passes, picked}
 use Rattle.sql_read.proofs.LookUpReadings.{authorization_end_reading, is_equal, issue_reading, order_end_reading, text}
-use Rattle.sql_read.proofs.{Failing.join_fails, Lists.filter-all, LookUpFaults.of_memory, StatusTests.authorization_status_test, StatusTests.order_status_test}
+use Rattle.sql_read.proofs.{Failing.join_fails, Lists.filter-all, StatusTests.authorization_status_test, StatusTests.order_status_test}
 use Rattle.sql_read.proofs.{Tests.eq_as, Tests.lt_as, Tests.text_test, TableColumns.order_status_at, TableColumns.authorization_status_at}
 
 -- ---- moments in their order
@@ -153,42 +152,6 @@ module _ {X : Type 0} (L : Layout X) (end : X → ℕ) {text : List ℕ} (tests 
 pub earliest_as : {S : Type 0} {g : Ghosts S} {ask other : List ℕ × Row} {old : Held S} {ms : List ℕ} → other ≡ ask → FindsEarliest g ask old ms
     → FindsEarliest g other old ms
 earliest_as {S} {g} {ask} {other} {old} {ms} same finds = subst (λ a. FindsEarliest g a old ms) (sym same) finds
-
-module _ {S : Type 0} {g : Ghosts S} {old new : Held S} {ask : List ℕ × Row} {moments : Tables → List ℕ}
-    (finds : (T : Tables) → Holds (state g old).now T → FindsEarliest g ask old (moments T)) where
-  -- what was read tells the earliest
-  pub earliest_told : (rows : List Row) (r : Result (Option ℕ) ReadFault)
-      → (HasCleanDisk (state g new) → Shown ask.0 ask.1 (state g old) (state g new) rows)
-      → (HasCleanDisk (state g new) → IsUnchanged (state g old) (state g new)) → Asks (state g old) (state g new)
-      → IfOk r (λ found. option_map (λ m. pos m) found ≡ first_number rows) → (BeginWithMoment rows → IfErr r IsOfMemory)
-      → TellsEarliest g old new moments r
-  earliest_told rows (Ok found) shown same asks first memory = record {
-    found = λ clean T has. (finds T has).shows new rows found (shown clean) first;
-    caused = λ clean T has book may. tt;
-    unchanged = same;
-    asks = asks;
-  }
-  earliest_told rows (Err fault) shown same asks first memory = record {
-    found = λ clean T has. tt;
-    caused = λ clean T has book may.
-        of_memory (state g old) (state g new) fault (memory (((finds T has).sure may).shows new rows (shown clean)));
-    unchanged = λ clean. tt;
-    asks = asks;
-  }
-
-  -- nothing was read
-  pub earliest_failed : (r : Result (Option ℕ) ReadFault) (error : Error)
-      → (HasCleanDisk (state g new) → FailsToQuery ask.0 ask.1 (state g old) (state g new) error)
-      → (HasCleanDisk (state g new) → IsMet (state g old) (state g new) error) → Asks (state g old) (state g new)
-      → IsErrAnd r (λ fault. fault ≡ Engine error) → TellsEarliest g old new moments r
-  earliest_failed (Ok found) error fails met asks same = absurd same
-  earliest_failed (Err fault) error fails met asks same = record {
-    found = λ clean T has. tt;
-    caused = λ clean T has book may.
-        subst (IsOfMemoryOrDisk (state g old) (state g new)) (sym same) (((finds T has).sure may).fails new error (fails clean), met clean);
-    unchanged = λ clean. tt;
-    asks = asks;
-  }
 
 module _ {S : Type 0} (g : Ghosts S) (old : Held S) (T : Tables) (has : Holds (state g old).now T) where
   -- of nonces

@@ -14,7 +14,6 @@ pub mod FirstLoading
 pub mod FirstTables
 pub mod FormatLemmas
 pub mod FoundRows
-pub mod Gathering
 pub mod HeldBooks
 pub mod JoinFound
 pub mod JoinParts
@@ -37,7 +36,6 @@ pub mod NestLemmas
 pub mod PlaceFound
 pub mod PlaceParts
 pub mod PlaceRows
-pub mod ReadValues
 pub mod Readings
 pub mod Results
 pub mod Selecting

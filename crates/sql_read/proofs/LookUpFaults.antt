@@ -9,10 +9,6 @@ use Rattle.sql_read.specs.{LookUpFaults.AreTableRows, LookUpFaults.IsOfMemory, L
 
 -- ---- faults
 
--- memory was refused
-pub of_memory : (old new : State) (fault : ReadFault) → IsOfMemory fault → IsOfMemoryOrDisk old new fault
-of_memory old new fault h = grind arith
-
 -- whatever came of it
 pub all_of_memory : {A : Type 0} (r : Result A ReadFault) (old new : State) → IfErr r IsOfMemory → IfErr r (IsOfMemoryOrDisk old new)
 all_of_memory r old new h = grind arith

@@ -1,14 +1,13 @@
 -- Look-ups one after another, and what is made of what they found.
-use Rattle.std.proofs.Common.{◌≡◌, ℕ, List, Result, Ok, Err, IsErrAnd, map, subst, sym, arith, rules}
-use Rattle.std.specs.Prelude.{IfErr, IfOk, IsErr, IsTrue, OnOk}
+use Rattle.std.proofs.Common.{◌≡◌, ℕ, List, Result, Ok, Err, IsErrAnd, subst, sym, arith, rules}
+use Rattle.std.specs.Prelude.{IfErr, IfOk, IsErr, OnOk}
 use Rattle.sqlite.specs.{Order.Row, Store.Ghosts, Held.Held, Held.state, State.HasCleanDisk, declared.error.Error.Error}
-use Rattle.desk_model.specs.{Kept.EachOf, Tables.Tables}
+use Rattle.desk_model.specs.{Tables.Tables}
 use Rattle.store_book.specs.IsBook.{IsStoredBook}
 use Rattle.sql_schema.specs.Stays.{Asks}
 use Rattle.sql_tables.specs.Holds.{Holds}
-use Rattle.sql_read.specs.{Failures.MayRead, Reads.ReadsRows, Looking.Finds, Looking.LooksFor, Looking.LooksUp, Selecting.IsQuery, LookUpFaults.AreTableRows}
+use Rattle.sql_read.specs.{Failures.MayRead, Reads.ReadsRows, Looking.Finds, Looking.LooksFor, Looking.LooksUp, Selecting.IsQuery}
 use Rattle.sql_read.specs.{LookUpFaults.IsOfMemory, LookUpFaults.IsOfMemoryOrDisk, declared.fault.ReadFault.ReadFault}
-use Rattle.sql_read.specs.{declared.fault.ReadFault.TheVariants.Engine}
 use Rattle.sql_read.proofs.LookUpFaults.{all_of_memory}
 
 -- whatever a query is called
@@ -17,40 +16,9 @@ pub finds_as : {S R C : Type 0} {g : Ghosts S} {spelled : Row → C} {Fits : Row
     → other ≡ ask → Finds g spelled Fits write IsStored ask old found → Finds g spelled Fits write IsStored other old found
 finds_as {S} {R} {C} {g} {spelled} {Fits} {write} {IsStored} {ask} {other} {old} {found} same finds = search rules
 
--- what was found said more
-pub found_so : {A : Type 0} (r : Result A ReadFault) {P Q : A → Type 0} → ((a : A) → P a → Q a) → IfOk r P → IfOk r Q
-found_so r h k = search rules
-
 -- nothing was changed, whatever was made of it
 always : {A : Type 0} (r : Result A ReadFault) {Q : Type 0} → Q → OnOk r Q
 always r h = search rules
-
--- a query is looked up by reading the rows that it shows, and making rows of a desk of these
-module _ {S R C A B : Type 0} (g : Ghosts S) (spelled : Row → C) (Fits : Row → Type 0) (write : R → C) (IsStored : R → Type 0) (ask : List ℕ × Row)
-    (old new : Held S) (shown : B → List Row) (items : A → List R) (r : Result A ReadFault) where
-  pub rows_made : (b : B) → ReadsRows g shown ask old new (Ok b)
-      → IfOk r (λ a. EachOf IsStored (items a) × (map spelled (shown b) ≡ map write (items a)))
-      → (AreTableRows spelled Fits write IsStored (shown b) → IfErr r IsOfMemory)
-      → LooksFor g old new (λ _ rows. Finds g spelled Fits write IsStored ask old rows) (λ rows a. items a ≡ rows) r
-  rows_made b read made fault = record {
-    found = λ clean T has book ws finds. found_so r (λ a it. finds.shows new (shown b) (items a) (read.shown clean) it.0 it.1) made;
-    caused = λ clean T has book may ws finds.
-        all_of_memory r (state g old) (state g new) (fault ((finds.sure may).shows new (shown b) (read.shown clean)));
-    unchanged = λ clean. always r (read.unchanged clean);
-    asks = read.asks;
-  }
-
-  -- or the reading failed
-  pub rows_failed : (e : Error) → ReadsRows g shown ask old new (Err e) → r ≡ Err (Engine e)
-      → LooksFor g old new (λ _ rows. Finds g spelled Fits write IsStored ask old rows) (λ rows a. items a ≡ rows) r
-  rows_failed e read same =
-      subst (LooksFor g old new (λ _ rows. Finds g spelled Fits write IsStored ask old rows) (λ rows a. items a ≡ rows)) (sym same)
-      (record {
-        found = λ clean T has book ws finds. tt;
-        caused = λ clean T has book may ws finds. ((finds.sure may).fails new e (read.fails clean), read.met clean);
-        unchanged = λ clean. tt;
-        asks = read.asks;
-      })
 
 -- so it is one, as the text that it is called
 pub query_as : {ask other : List ℕ × Row} → other ≡ ask → IsQuery ask.0 → IsQuery other.0
@@ -136,11 +104,3 @@ pub stopped : {S W A : Type 0} {g : Ghosts S} {old new : Held S} {Such : Tables 
     → IfErr r (IsOfMemoryOrDisk (state g old) (state g new)))
     → Asks (state g old) (state g new) → LooksFor g old new Such Is r
 stopped {r = r} ended caused asks = grind arith
-
--- a step behind another, which found what it looks by
-pub step_then : {S V W A B : Type 0} {g : Ghosts S} {old mid new : Held S} {Such : Tables → W → Type 0} {Is : W → A → Type 0} {Suits : Tables → V → Type 0}
-    {All : Tables → V → Type 0} {Are : V → B → Type 0} {a : A} {r : Result B ReadFault} (pick : Tables → V → W)
-    → ((T : Tables) → Holds (state g old).now T → IsStoredBook T → (v : V) → All T v → Such T (pick T v))
-    → ((T : Tables) → (v : V) → All T v → Is (pick T v) a → Suits T v) → LooksFor g old mid Such Is (Ok a)
-    → Asks (state g mid) (state g new) → (IsTrue (state g mid).is_open → LooksFor g mid new Suits Are r) → LooksFor g old new All Are r
-step_then {S} {V} {W} {A} {B} {g} {old} {mid} {new} {Such} {Is} {Suits} {All} {Are} {a} {r} pick such suits one asks next = grind arith

@@ -1,9 +1,9 @@
 -- A reading has an error of the disk only where the disk met a fault.
-use Rattle.std.proofs.Common.{◌≡◌, ℕ, List, Result, IfErr, None, Option, sym, ◌∙◌, rules}
+use Rattle.std.proofs.Common.{◌≡◌, ℕ, List, None, Option, sym, ◌∙◌, rules}
 use Rattle.sqlite_resolve.specs.declared.compiled.Compiled.{Compiled}
 use Rattle.sqlite_schema.specs.declared.command.Returning.{Returning}
 use Rattle.sqlite.specs.State.{State, FailsToQuery, FailsToShow, IsNotRun}
-use Rattle.sqlite.specs.{Order.Row, Order.column, Reading.IsReadError, declared.error.Error.Error}
+use Rattle.sqlite.specs.{Order.Row, declared.error.Error.Error}
 use Rattle.sql_read.specs.{Failures.IsMet, Failures.IsOfNoDevice, Selecting.IsQuery}
 use Rattle.sql_read.proofs.Selecting.{none_understood}
 use Rattle.sql_schema.specs.Stays.{Asks}
@@ -13,10 +13,6 @@ use Rattle.sql_schema.specs.Stays.{Asks}
 -- an error that is known to be none of the disk
 pub no_device : (old new : State) (e : Error) → IsOfNoDevice e → IsMet old new e
 no_device old new e none is = absurd (let x = sym none ∙ is in cc)
-
--- nor is one of a value
-pub value_is_none : {X : Type 0} (at : ℕ) (row : Row) (r : Result X Error) → IfErr r (IsReadError at (column row at)) → IfErr r IsOfNoDevice
-value_is_none at row r h = search rules
 
 -- ---- the engine
 

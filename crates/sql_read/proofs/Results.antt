@@ -1,5 +1,5 @@
 -- Results, and tests.
-use Rattle.std.proofs.Common.{◌≡◌, Bool, false, IsTrue, IfErr, IfOk, IfSome, IsErrAnd, MatchOption, OnOk, Option, None, Result, Err, arith, rules}
+use Rattle.std.proofs.Common.{◌≡◌, Bool, false, IsTrue, IfErr, IfOk, IfSome, IsErrAnd, MatchOption, OnOk, Option, None, Result, arith, rules}
 use Rattle.sqlite.specs.State.{State, IsUnchanged}
 
 -- what is so of a result says more
@@ -38,10 +38,6 @@ fails_under r Q h = search rules
 -- an error that is passed on
 pub failed_as : {A E : Type 0} (r : Result A E) (e : E) (Q : E → Type 0) → Q e → IsErrAnd r (λ x. x ≡ e) → IfErr r Q
 failed_as r e Q h k = search rules
-
--- a result that is an error is that of it
-pub refused_with : {A E : Type 0} (r : Result A E) {e : E} → IsErrAnd r (λ x. x ≡ e) → r ≡ Err e
-refused_with r h = search rules
 
 -- one call after another that was answered changed nothing
 pub unchanged_after : {A E : Type 0} (r : Result A E) (a b c : State) → IsUnchanged a b → (IsTrue b.is_open → OnOk r (IsUnchanged b c)) → OnOk r

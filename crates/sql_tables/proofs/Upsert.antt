@@ -2,7 +2,7 @@
 use Rattle.std.proofs.Common.{◌≡◌, ◌≢◌, ◌⊎◌, inl, inr, ℕ, ℤ, pos, ◌++◌, Bool, List, [], ◌∷◌, map, length, ◌/◌, true, false, Some, Option, Ok, refl, sym, ap}
 use Rattle.std.proofs.Common.{subst, ◌∙◌, arith, rules}
 use Rattle.std.proofs.lemmas.Bool.{false_from_ne_true}
-use Rattle.sqlite.specs.Rows.{Task, Written, Puts, Clears, Meets, Updates, Upserts, Tries, InsertsOr, stamped, rowids_for, Counts, shown}
+use Rattle.sqlite.specs.Rows.{Task, Written, Puts, Clears, Meets, Updates, Upserts, InsertsOr, stamped, rowids_for, Counts, shown}
 use Rattle.sqlite.specs.{declared.types.Value.TheVariants.Int, declared.types.Value.TheVariants.Null, Effect.value_rows}
 use Rattle.sqlite_value.specs.Order.{Row, column}
 use Rattle.sqlite_trees.specs.Tree.{Trees, rowid}
@@ -44,11 +44,6 @@ keeps_id rowids rows r n h = search rules
 pub uncounts : (task : Task) (db : Trees) (counter : Option Row) (top : ℤ) (next : Trees) → task.table.is_counted ≡ false
     → Counts task db counter top (Ok next) → next ≡ db
 uncounts task db counter top next none h = same_value (rw none at h)
-
--- a row that was written passed the tests of its table
-pub tried : (task : Task) (clauses : List Upsert) (new : Row) (db : Trees) (w : Written) → Tries task Abort clauses new db (Ok w)
-    → Upserts task Abort new db clauses (Ok w)
-tried task clauses new db w h = search rules
 
 -- where nothing is replaced a row is put, whatever was found
 cleared : (task : Task) (new : Row) (db : Trees) (found : List Row) (w : Written) → Clears task Abort new db found (Ok w) → Puts task new db (Ok w)

@@ -1,13 +1,12 @@
 -- The keys of answers, beside the challenges that they belong to.
 use Rattle.std.specs.List.{flat_map}
-use Rattle.std.proofs.Common.{◌≡◌, ℕ, List, [], ◌∷◌, map, Some, refl, arith, rules}
+use Rattle.std.proofs.Common.{◌≡◌, ℕ, List, [], ◌∷◌, map, refl, arith, rules}
 use Rattle.std.proofs.{lemmas.List.Elements.filter_map-append}
-use Rattle.store_columns.specs.{Flat.answer_key, Flat.challenge_rows, Flat.key_rows, Flat.owned_by, declared.columns.AnswerKey.AnswerKey}
+use Rattle.store_columns.specs.{Flat.challenge_rows, Flat.key_rows, Flat.owned_by}
 use Rattle.model_laws.specs.News.{KeepChallenges}
 use Rattle.desk_model.specs.declared.{rows.AuthorizationRow.AuthorizationRow, rows.ChallengeRow.ChallengeRow}
 use Rattle.sql_write.proofs.Numbered.{AreWithin, within_more}
 use Rattle.sql_tables.specs.Layouts.{key_layout}
-use Rattle.sql_write.specs.Fits.{FitsChallenge, FitsKey}
 
 -- authorization by authorization
 pub keys_flat : (rows : List AuthorizationRow) → key_rows (challenge_rows rows) ≡ flat_map (λ a. key_rows (owned_by a.number a.challenges)) rows
@@ -20,7 +19,3 @@ pub keys_within : (n m : ℕ) (cs ds : List ChallengeRow) → KeepChallenges cs 
 keys_within n m [] ds kept = tt
 keys_within n m (c ∷ cs) [] kept = absurd (cc (kept.numbers))
 keys_within n m (c ∷ cs) (d ∷ ds) kept = grind (arith, within_more, (keys_within n m cs ds (record { numbers = cc (kept.numbers); answers = kept.answers.1 })))
-
--- its columns take its number where those of the challenge do
-pub key_of_answer : (n : ℕ) (c : ChallengeRow) (k : AnswerKey) → answer_key c ≡ Some k → FitsChallenge (record { owner = n; row = c }) → FitsKey k
-key_of_answer n c k is fits = search rules

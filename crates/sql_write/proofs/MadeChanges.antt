@@ -6,9 +6,9 @@ use Rattle.sqlite.specs.{Effect.Database, Store.Ghosts, Held.Held, Held.state}
 use Rattle.sqlite_rules.specs.Lists.{Has}
 use Rattle.store_columns.specs.{Columns.known_format, Columns.order_columns, Flat.challenge_rows, Flat.key_rows, Flat.listed_rows, Flat.owned_by}
 use Rattle.model_laws.specs.{Distinct.Distinct, Placing.puts, News.KeepsChildren}
-use Rattle.desk_model.specs.declared.rows.Change.TheVariants.{PutMeta, PutNonce, RemoveNonce, PutAccount, PutAuthorization, PutOrder}
+use Rattle.desk_model.specs.declared.rows.Change.TheVariants.{PutMeta, PutAccount, PutAuthorization, PutOrder}
 use Rattle.desk_model.specs.{Change.applied_one, Change.put, Questions.account_on, Questions.authorization_on, Questions.order_on, Tables.Tables}
-use Rattle.desk_model.specs.{declared.objects.Nonce.Nonce, declared.rows.AccountRow.AccountRow, declared.rows.AuthorizationRow.AuthorizationRow}
+use Rattle.desk_model.specs.{declared.rows.AccountRow.AccountRow, declared.rows.AuthorizationRow.AuthorizationRow}
 use Rattle.desk_model.specs.{declared.rows.Meta.Meta, declared.rows.OrderRow.OrderRow, declared.rows.Change.Change, declared.rows.Counters.Counters}
 use Rattle.sql_write.specs.Makes.{AppendsAll, Makes, PlacesAll, PutsOver, SavesAuthorization, SavesMeta, SavesOrder, WritesOrder, appended}
 use Rattle.sql_write.specs.{Refusals.HasWritten, Statements.statements_of, Stored.HasSome, Stored.IsMadeAs, declared.fault.SaveFault.SaveFault}
@@ -17,10 +17,10 @@ use Rattle.sql_write.proofs.{ChallengeNumbers.keys_owned, InPlace.put_alike, Ove
 use Rattle.sql_write.proofs.{StoredChildren.challenges_stand, StoredChildren.keys_stand, KeyRows.keys_flat, KeyRows.keys_within}
 use Rattle.sql_write.proofs.{ListedAfter.added as added_listed, ListedAfter.found_in, ListedAfter.listed_after, NestedRows.children_put, NestedRows.own_apart}
 use Rattle.sql_write.proofs.{Numbered.AreWithin, Numbered.within_same, StoredRows.account_found, StoredRows.found_has}
-use Rattle.sql_tables.specs.Effects.{Adds, BecomesRows, Puts, Removes, Renews}
-use Rattle.sql_tables.specs.Layouts.{HasRows, account_layout, authorization_layout, challenge_layout, key_layout, listed_layout, nonce_layout, order_layout}
-use Rattle.sql_tables.specs.{Holds.AreRising, Holds.Holds, Images.challenge_image, Images.key_image, Images.order_kept, Sorted.sorted_by}
-use Rattle.sql_tables.proofs.Holding.{accounts_held, authorizations_held, holds_on, meta_held, nonces_held, orders_held}
+use Rattle.sql_tables.specs.Effects.{Adds, Puts, Renews}
+use Rattle.sql_tables.specs.Layouts.{HasRows, account_layout, authorization_layout, challenge_layout, key_layout, listed_layout, order_layout}
+use Rattle.sql_tables.specs.{Images.challenge_image, Images.key_image, Images.order_kept, Sorted.sorted_by}
+use Rattle.sql_tables.proofs.Holding.{accounts_held, authorizations_held, holds_on, meta_held, orders_held}
 use Rattle.sql_tables.proofs.{Keyed.put_ascends, AnswerKeys.keys_apart, NoIndexes.keeps_both, NoIndexes.kept_at, Sorting.put_over, Sorting.sorted_rises}
 
 -- ---- one row
@@ -36,19 +36,6 @@ makes_meta part x old new sets T has is_part fits =
   where
     rows : List (ℤ × Meta)
     rows = (known_format, T.meta) ∷ []
-
--- nonces that are put or removed
-nonces_become : (old new : Database) (T : Tables) (nonces : List Nonce) → Holds old T → BecomesRows nonce_layout nonces old new
-    → AreRising (record T { nonces = nonces }) → Holds new (record T { nonces = nonces })
-nonces_become old new T nonces has p rising = grind arith
-
--- a nonce
-pub makes_nonce : (part : Tables) (x : Nonce) (old new : Database) → Puts nonce_layout x old new → Makes part (PutNonce x) old new
-makes_nonce part x old new puts T has is_part fits = nonces_become old new T _ has (puts T.nonces (nonces_held old T has)) fits.rising
-
--- the removal of a nonce
-pub makes_removal : (part : Tables) (n : ℕ) (old new : Database) → Removes nonce_layout n old new → Makes part (RemoveNonce n) old new
-makes_removal part n old new removes T has is_part fits = nonces_become old new T _ has (removes T.nonces (nonces_held old T has)) fits.rising
 
 -- an account
 pub makes_account : (part : Tables) (x : AccountRow) (old new : Database) → PutsOver account_layout (account_on part x.number) x old new

@@ -1,13 +1,13 @@
 -- What a call wrote of a row, by the texts of its table.
-use Rattle.std.proofs.Common.{◌≡◌, Result, Err, rules}
+use Rattle.std.proofs.Common.{◌≡◌, Result, rules}
 use Rattle.sqlite.specs.{Effect.Database, Order.Row, Store.Ghosts, Held.Held}
 use Rattle.store_columns.specs.{Columns.account_columns, Columns.authorization_columns, Columns.challenge_columns, Columns.order_columns, Flat.bare_row}
 use Rattle.sql_write.specs.Statements.{RowWriting, account_writing, authorization_writing, challenge_writing, key_writing, listed_writing, meta_writing}
 use Rattle.sql_write.specs.Statements.{nonce_writing, order_writing, sql_by, writes}
 use Rattle.sql_write.specs.{Makes.AddsOrPuts, Makes.AppendsOrPlaces, Makes.RenewsOrPuts, Makes.Writes, Refusals.HasWritten, Refusals.IsRun}
-use Rattle.sql_write.specs.{declared.fault.SaveFault.SaveFault, declared.fault.WriteFault.WriteFault, declared.stored.Write.Write}
+use Rattle.sql_write.specs.{declared.fault.SaveFault.SaveFault, declared.stored.Write.Write}
 use Rattle.sql_write.specs.{declared.stored.Write.TheVariants.Upsert, declared.stored.Write.TheVariants.Insert, declared.stored.Write.TheVariants.Update}
-use Rattle.sql_write.proofs.Written.{none_written, run_written}
+use Rattle.sql_write.proofs.Written.{run_written}
 use Rattle.sql_tables.specs.Images.{account_kept, authorization_kept, challenge_kept, formatted_columns, meta_kept, order_kept}
 use Rattle.sql_tables.specs.Layouts.{Layout, account_layout, authorization_layout, challenge_layout, formatted_layout, key_layout, nonce_layout, order_layout}
 use Rattle.sql_tables.proofs.Upserts.{account_insert, account_update, account_upsert, nonce_insert, nonce_upsert, order_insert, order_update, order_upsert}
@@ -15,7 +15,6 @@ use Rattle.sql_tables.proofs.Upserts.{authorization_insert, authorization_update
 use Rattle.sql_tables.proofs.Upserts.{key_insert, key_upsert, meta_update, meta_upsert}
 use Rattle.sql_tables.proofs.{Inserts.Carries, InsertStatement.IsInsert, UpdateStatement.IsUpdate, UpsertStatement.IsUpsert, UpsertStatement.advances_by}
 use Rattle.sql_tables.proofs.{InsertStatement.advances_inserted, ListedUpsert.advances_appended, ListedUpsert.advances_listed, UpdateStatement.advances_renewed}
-use Rattle.sql_write.specs.declared.fault.SaveFault.TheVariants as save
 
 -- the texts by which rows of a table are put, inserted and renewed do this
 pub record AreTexts {X : Type 0} (rows : RowWriting X) (Does : Write → X → Database → Database → Type 0) : Type 1 where
@@ -25,10 +24,6 @@ pub record AreTexts {X : Type 0} (rows : RowWriting X) (Does : Write → X → D
 
 module _ {S : Type 0} (g : Ghosts S) {X : Type 0} {rows : RowWriting X} {Does : Write → X → Database → Database → Type 0}
     (texts : AreTexts rows Does) (x : X) where
-  -- nothing was written, as the columns were not made
-  pub row_unwritten : (m : Write) (a : Held S) (why : WriteFault) → HasWritten g {X = Unit {0}} (writes rows m x) (Does m x) a a (Err (save.Row why))
-  row_unwritten m a why = none_written g (writes rows m x) (Does m x) a why
-
   -- the statement for this write was run with these values
   pub row_written : (m : Write) {a b : Held S} {q : Result (Unit {0}) SaveFault} {all updates : Row} → all ≡ rows.all x → updates ≡ rows.updates x
       → IsRun g (sql_by rows.texts.0.now rows.texts.1.now rows.texts.2.now m all updates) a b q → HasWritten g (writes rows m x) (Does m x) a b q

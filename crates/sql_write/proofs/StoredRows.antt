@@ -8,7 +8,7 @@ use Rattle.model_laws.proofs.{RowLists.put_before, RowLists.put_instead, RowList
 use Rattle.desk_model.specs.declared.rows.Change.TheVariants.{PutMeta, PutNonce, RemoveNonce, PutAccount, PutAuthorization, PutOrder}
 use Rattle.desk_model.specs.{Change.applied, Change.applied_one, Change.put, Kept.EachOf, Tables.Tables, Questions.account_on, Questions.authorization_on}
 use Rattle.desk_model.specs.{Questions.order_on, declared.rows.AccountRow.AccountRow, declared.rows.AuthorizationRow.AuthorizationRow}
-use Rattle.desk_model.specs.{declared.rows.ChallengeRow.ChallengeRow, declared.rows.Change.Change, declared.rows.Meta.Meta, declared.rows.OrderRow.OrderRow}
+use Rattle.desk_model.specs.{declared.rows.ChallengeRow.ChallengeRow, declared.rows.Change.Change, declared.rows.OrderRow.OrderRow}
 use Rattle.sql_write.specs.Stored.{HasSome, IsRow, IsMadeAs, AreFound, IsPartOf}
 use Rattle.sql_write.specs.{Highest.IsAbove, Highest.PutsNone, declared.stored.Highest.Highest}
 use Rattle.sql_tables.proofs.Keyed.{ranked}
@@ -140,16 +140,6 @@ applied_more cs i c T low is = grind (arith, applied-append, (take_more cs i c l
 pub copied_or : {X : Type 0} (a b : Option (Bor X)) → option_copied (option_or a b) ≡ option_or (option_copied a) (option_copied b)
 copied_or a b = search rules
 
--- what a change leaves that puts no such row
-pub record Leaves (c : Change) (T : Tables) (n : ℕ) : Type 0 where
-  pub meta : ((x : Meta) → c ≢ PutMeta x) → (applied_one c T).meta ≡ T.meta
-  pub account : ((x : AccountRow) → c ≢ PutAccount x) → account_on (applied_one c T) n ≡ account_on T n
-  pub authorization : ((x : AuthorizationRow) → c ≢ PutAuthorization x) → authorization_on (applied_one c T) n ≡ authorization_on T n
-  pub order : ((x : OrderRow) → c ≢ PutOrder x) → order_on (applied_one c T) n ≡ order_on T n
-
-pub leaves : (c : Change) (T : Tables) (n : ℕ) → Leaves c T n
-leaves c T n = search rules
-
 -- what a change puts is lent where it has the number, and is found before what was found
 pub put_lent : {X : Type 0} (key : X → ℕ) (n : ℕ) (x : Bor X) (rows : List X) (lent : Option (Bor X)) → lent ≡ then_some (key x.now == n) x
     → find (λ r. key r == n) (put key x.now rows) ≡ option_or (option_copied lent) (find (λ r. key r == n) rows)
@@ -160,11 +150,6 @@ pub left_by_all : {X : Type 0} (on : Tables → ℕ → Option X) (n : ℕ) (cs 
     → EachOf (λ c. (T : Tables) → on (applied_one c T) n ≡ on T n) cs → on (applied cs T) n ≡ on T n
 left_by_all on n [] T all = refl
 left_by_all on n (c ∷ cs) T all = left_by_all on n cs (applied_one c T) all.1 ∙ all.0 T
-
--- of rows above the highest
-pub none_above : {X : Type 0} (on : Tables → ℕ → Option X) (highest n : ℕ) (cs : List Change) → EachOf (PutsNone on highest) cs → highest < n
-    → EachOf (λ c. (T : Tables) → on (applied_one c T) n ≡ on T n) cs
-none_above on highest n cs all high = each _ _ cs (λ c none T. none T n high) all
 
 -- a higher number does, too
 pub none_higher : {X : Type 0} (on : Tables → ℕ → Option X) (a b : ℕ) (cs : List Change) → a ≤ b → EachOf (PutsNone on a) cs → EachOf (PutsNone on b) cs

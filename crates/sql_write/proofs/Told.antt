@@ -6,7 +6,7 @@ use Rattle.std.specs.List.{flat_map}
 use Rattle.sqlite.specs.{Held.Held, Held.state, Order.Row, State.Survives, Store.Ghosts, declared.error.Error.Error}
 use Rattle.sql_schema.specs.Definitions.{definition_at}
 use Rattle.sql_write.proofs.Exits.{survives_both}
-use Rattle.sql_write.specs.Refusals.{HaveBegun, HaveRun, IsCause, Ran, Runs, Stops}
+use Rattle.sql_write.specs.Refusals.{HaveRun, IsCause, Ran, Runs, Stops}
 use Rattle.sql_write.specs.{Statements.Sql, Statements.defines, Statements.defines_before, declared.fault.SaveFault.SaveFault}
 use Rattle.sql_write.specs.declared.fault.SaveFault.TheVariants as save
 
@@ -32,10 +32,6 @@ module _ {S : Type 0} (g : Ghosts S) where
   pub runs_with : (text : List ℕ) (old new : Held S) (answer : Result ℕ Error) (params wanted : Row) → params ≡ wanted
       → Runs g (record { text = text; params = params }) old new answer → Runs g (record { text = text; params = wanted }) old new answer
   runs_with text old new answer params wanted same = subst (λ row. Runs g (record { text = text; params = row }) old new answer) same
-
-  -- none was run
-  pub none_begun : (all : List Sql) (now : Held S) → HaveBegun g all now now
-  none_begun all now = record { ran = []; rest = all; are = refl; have_run = refl }
 
   -- ---- one after the other
 

@@ -1,16 +1,14 @@
 -- Calls that write, one after the other.
 use Rattle.std.specs.List.{flat_map}
-use Rattle.std.proofs.Common.{◌≡◌, ℕ, ◌+◌, ◌<◌, ◌≤◌, ◌∙◌, List, [], ◌∷◌, ◌++◌, Result, Ok, Err, OnOk, add-one, ap, drop, get_or, length, refl, sym, subst, take}
-use Rattle.std.proofs.Common.{take_all}
+use Rattle.std.proofs.Common.{◌≡◌, ℕ, ◌+◌, ◌<◌, ◌∙◌, List, [], ◌∷◌, ◌++◌, Result, Ok, Err, OnOk, add-one, ap, drop, get_or, length, refl, sym, subst, take}
 use Rattle.std.proofs.Math.Seq.{take-suc}
 use Rattle.sqlite.specs.{Effect.Database, Order.Row, Store.Ghosts, Held.Held, Held.state}
 use Rattle.sql_schema.proofs.{AdvanceLemmas.advances_as, AdvanceLemmas.performs_keeps, StaysLemmas.asks_nothing}
 use Rattle.sql_schema.specs.Advances.{Advances, Performs}
 use Rattle.sql_write.proofs.Exits.{advances_both, kept_behind, survives_both}
-use Rattle.sql_write.proofs.Told.{begins_with, none_begun, one_more, ran_behind, runs_with, stops_among, stops_some}
+use Rattle.sql_write.proofs.Told.{begins_with, one_more, ran_behind, runs_with, stops_among, stops_some}
 use Rattle.sql_write.specs.Refusals.{HasWritten, IsRun, Stops}
-use Rattle.sql_write.specs.{Statements.Sql, declared.fault.SaveFault.SaveFault, declared.fault.WriteFault.WriteFault}
-use Rattle.sql_write.specs.declared.fault.SaveFault.TheVariants as save
+use Rattle.sql_write.specs.{Statements.Sql, declared.fault.SaveFault.SaveFault}
 
 -- what is done
 abbrev Doing : Type 1
@@ -28,15 +26,6 @@ module _ {S : Type 0} (g : Ghosts S) where
     kept = λ clean inside is_open. refl;
     survives = (asks_nothing (state g a)).survives;
     told = refl;
-  }
-
-  -- nothing was, as the columns of a row were not made
-  pub none_written : {X : Type 0} (all : List Sql) (A : Doing) (a : Held S) (why : WriteFault) → HasWritten g {X = X} all A a a (Err (save.Row why))
-  none_written all A a why = record {
-    does = tt;
-    kept = λ clean inside is_open. refl;
-    survives = (asks_nothing (state g a)).survives;
-    told = none_begun g all a;
   }
 
   -- one statement, by a call that keeps its count; its parameters are these, too
@@ -125,10 +114,6 @@ pub record HasWrittenFirst {S X : Type 0} (g : Ghosts S) (of : X → List Sql) {
   pub first : HasWritten g {X = Unit {0}} (flat_map of (take i rows)) (Does (take i rows)) a b (Ok tt)
 
 module _ {S X : Type 0} {g : Ghosts S} {of : X → List Sql} {Does : List X → Doing} {Each : X → Doing} {turns : Turns Does Each} {rows : List X} where
-  -- none
-  pub turned_none : (a : Held S) → HasWrittenFirst g of turns rows 0 a a
-  turned_none a = record { first = nothing_written g (Does []) a tt (turns.none (state g a).now) }
-
   -- one more
   pub turned_more : {i : ℕ} {a b c : Held S} (d : X) → HasWrittenFirst g of turns rows i a b → i < length rows
       → HasWritten g {X = Unit {0}} (of (get_or rows i d)) (Each (get_or rows i d)) b c (Ok tt) → HasWrittenFirst g of turns rows (i + 1) a c
@@ -148,8 +133,3 @@ module _ {S X : Type 0} {g : Ghosts S} {of : X → List Sql} {Does : List X → 
   turned_until {i} {B = B} {a = a} {b = b} {c = c} {why = why} d before low last =
       written_through g (flat_map of (take i rows)) (of (get_or rows i d)) (flat_map of (drop (i + 1) rows)) (flat_map of rows)
       (begins_with of rows i d low) (Does (take i rows)) B (Does rows) a b c tt why before.first last
-
-  -- all
-  pub turned_all : {i : ℕ} {a b : Held S} → HasWrittenFirst g of turns rows i a b → length rows ≤ i
-      → HasWritten g {X = Unit {0}} (flat_map of rows) (Does rows) a b (Ok tt)
-  turned_all {i} {a} {b} all high = subst (λ xs. HasWritten g {X = Unit {0}} (flat_map of xs) (Does xs) a b (Ok tt)) (take_all i rows high) all.first

@@ -1,7 +1,6 @@
 -- The rows above a number, one after the other.
 use Rattle.std.proofs.Common.{◌≡◌, ◌<◌, ◌≤◌, ℕ, ◌+◌, List, [], ◌∷◌, ◌++◌, true, cond, refl, sym, arith, ltb, Option, Result, IfOk, rules}
 use Rattle.std.proofs.lemmas.{Result.IfOk-weaker, Bool.lt-ltb}
-use Rattle.std.specs.List.{flat_map}
 use Rattle.model_laws.specs.Ordered.{Ascends}
 use Rattle.model_lives.specs.Above.{above, first_of}
 use Rattle.store_passes.specs.{Left.IsRowAfter, Stepping.IsFirst}
@@ -38,24 +37,10 @@ pub above_step : {X : Type 0} (number : X → ℕ) (n m : ℕ) (x : X) (xs : Lis
 above_step number n m x [] h e = absurd (cc e)
 above_step number n m x (y ∷ ys) h e = grind (arith, all_above, first_is_above, (above_step number n (number y + 1) x ys h.1))
 
--- what is found at the first of the rows above a number, and what is left above its number
-pub found_step : {X F : Type 0} (number : X → ℕ) (found_at : X → List F) (n m : ℕ) (x : X) (xs : List X) (found : List F) →
-    Ascends number m xs → first_of (above number n xs) ≡ x ∷ [] → found ≡ found_at x →
-    flat_map found_at (above number n xs) ≡ found ++ flat_map found_at (above number (number x) xs)
-found_step number found_at n m x xs found h e same = search (rules, above_step)
-
--- where no row is first, nothing is found
-pub nothing_left : {X F : Type 0} (found_at : X → List F) (rows : List X) → first_of rows ≡ [] → flat_map found_at rows ≡ []
-nothing_left found_at rows h = search rules
-
 -- the row that was given is the one after a number, where rows ascend
 is_after : {X : Type 0} (number : X → ℕ) (n : ℕ) (all : List X) (row : Option X) → Ascends number 1 all → IsFirst row (above number n all)
     → IsRowAfter number all n row
 is_after number n all row h k = search (rules, above_step)
-
--- and so it is the first of those above it
-pub first_after : {X : Type 0} (number : X → ℕ) (n : ℕ) (all : List X) (row : Option X) → IsRowAfter number all n row → IsFirst row (above number n all)
-first_after number n all row h = search rules
 
 pub row_is_after : {X F : Type 0} (number : X → ℕ) (n : ℕ) (all found : List X) (r : Result (Option X) F) → Ascends number 1 all
     → IfOk r (λ row. (rows : List X) → found ≡ first_of rows → IsFirst row rows) → found ≡ first_of (above number n all)
