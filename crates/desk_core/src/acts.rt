@@ -68,13 +68,26 @@ fn act_on_account(
     located_account(alloc, &book.meta().policy, 201, row)
 }
 
+// The name of what is wanted.
+fn name_of(wanted: Wanted) -> DnsName
+    ensures { result ≡ wanted_name wanted }
+{
+    match wanted {
+        Wanted::New { name, tokens: _ } => name,
+        Wanted::Reused {
+            name,
+            authorization: _,
+        } => name,
+    }
+}
+
 // The names of a new order.
-fn names_of(alloc: Global, wanted: &[Wanted]) -> Result<Vec<DnsName>, AllocError>
-    ensures { IfOk result (λ v. v.items ≡ map wanted_name wanted.now) }
+fn names_of(alloc: Global, wanted: Vec<Wanted>) -> Result<Vec<DnsName>, AllocError>
+    ensures { IfOk result (λ v. v.items ≡ map wanted_name wanted.items) }
 {
     let mut names = Vec::new(alloc);
     for one in wanted {
-        names.push(one.name().clone()?)?;
+        names.push(name_of(one))?;
     }
     Ok(names)
 }
@@ -84,9 +97,9 @@ fn made_order_reply(
     alloc: Global,
     policy: &Policy,
     row: &OrderRow,
-    wanted: &[Wanted],
+    wanted: Vec<Wanted>,
 ) -> Result<Reply, AllocError>
-    ensures { IfOk result (λ r. (T : Tables) → T.meta.policy ≡ policy.now → map (λ a. a.name) (listed_rows T row.now) ≡ map wanted_name wanted.now
+    ensures { IfOk result (λ r. (T : Tables) → T.meta.policy ≡ policy.now → map (λ a. a.name) (listed_rows T row.now) ≡ map wanted_name wanted.items
         → row.now.expires ≤ last_end → r ≡ located_order 201 T row.now) }
 {
     let names = names_of(alloc, wanted)?;
@@ -99,22 +112,22 @@ fn act_on_order(
     book: &Book,
     recording: &mut Recording,
     account: u64,
-    wanted: &[Wanted],
+    wanted: Sequence<Wanted>,
 ) -> Result<Reply, AllocError>
     requires orders { recording.old.counters.orders < last_number }
-    requires authorizations { recording.old.counters.authorizations + count_new wanted.now ≤ last_number }
-    requires challenges { recording.old.counters.challenges + count_tokens wanted.now ≤ last_number }
-    requires there { NamesRows (swept recording.old.counters.clock book.now) (orders account wanted.now) }
+    requires authorizations { recording.old.counters.authorizations + count_new wanted ≤ last_number }
+    requires challenges { recording.old.counters.challenges + count_tokens wanted ≤ last_number }
+    requires there { NamesRows (swept recording.old.counters.clock book.now) (orders account wanted) }
     ensures recorded { OnOk result ((m : ℕ) (es : List EntryOf) → IsOrdered book.now → IsUntouched m book.now es
-        → GoesOn m book.now es (ordered account wanted.now ∷ []) recording.old recording.new) }
+        → GoesOn m book.now es (ordered account wanted ∷ []) recording.old recording.new) }
     ensures reply { IfOk result (λ r. (m : ℕ) → IsAt m book.now recording.old.counters → IsOrdered book.now
-        → HasTexts (effects m (swept m book.now) (ordered account wanted.now ∷ []))
-        → r ≡ made_order (effects m (swept m book.now) (ordered account wanted.now ∷ []))) }
+        → HasTexts (effects m (swept m book.now) (ordered account wanted ∷ []))
+        → r ≡ made_order (effects m (swept m book.now) (ordered account wanted ∷ []))) }
 {
     let policy = &book.meta().policy;
-    recording.order(alloc, policy, account, wanted)?;
+    recording.order(alloc, policy, account, wanted.as_slice())?;
     let row = recording.last_order().unwrap();
-    made_order_reply(alloc, policy, row, wanted)
+    made_order_reply(alloc, policy, row, wanted.into_vec())
 }
 
 /// What a verdict records, and its reply without a nonce; a refusal has the link to the directory.
@@ -140,9 +153,7 @@ pub(crate) fn act(
         Verdict::KeyTaken(account) => taken_reply(alloc, &book.meta().policy, account, true),
         Verdict::Answers(shows) => show(alloc, book, recording.counters.clock.moment(), shows),
         Verdict::Opens(key, contacts) => act_on_account(alloc, book, recording, key, contacts),
-        Verdict::Orders(account, wanted) => {
-            act_on_order(alloc, book, recording, account, wanted.as_slice())
-        }
+        Verdict::Orders(account, wanted) => act_on_order(alloc, book, recording, account, wanted),
         Verdict::Moves(motion) => act_on_rows(alloc, book, recording, &motion),
     }
 }
