@@ -5,8 +5,8 @@ use Rattle.desk_model.specs.{Authorization.is_pending, Effect.is_overdue, Legal.
 use Rattle.desk_model.specs.{Tables.Tables, Touched.is_past_order, declared.rows.AccountRow.AccountRow, declared.rows.AuthorizationRow.AuthorizationRow}
 use Rattle.desk_model.specs.declared.rows.{ChallengeRow.ChallengeRow, Counters.Counters, Meta.Meta, OrderRow.OrderRow}
 use Rattle.desk_model.specs.Document.{authorization_status_text, challenge_status_text, kind_text, listed_rows, order_status_text}
-use Rattle.model_lives.specs.{Above.authorizations_above, Above.orders_above, LookUps.accounts_numbered, LookUps.wants_order}
-use Rattle.model_lives.specs.declared.queries.OrdersWhere.TheVariants as orders
+use Rattle.model_parts.specs.{Above.authorizations_above, Above.orders_above, LookUps.accounts_numbered, LookUps.wants_order}
+use Rattle.model_parts.specs.declared.queries.OrdersWhere.TheVariants as orders
 use Rattle.moments.specs.Capped.{capped}
 use Rattle.app_reports.specs.About.{statuses_said}
 use Rattle.app_page.specs.Html.{escaped}

@@ -16,7 +16,7 @@ use crate::texts::{
 };
 use app_reports::{ReportFault, write_statuses};
 use desk_model::{Clock, Counters, Meta};
-use model_lives::OrdersWhere;
+use model_parts::OrdersWhere;
 use moments::capped_moment_text;
 use std::alloc::Global;
 use std::io::{self, Write};

@@ -9,7 +9,7 @@ ghost use Rattle.desk_model.specs.{Tables.Tables, Effect.is_overdue, Legal.is_pr
 use crate::pieces::{Piece, write_pieces};
 use app_reports::ReportFault;
 use desk_model::{AccountRow, AuthorizationRow, AuthzStatus, ChallengeRow, DnsName, OrderRow};
-use model_lives::{AccountsWhere, Query};
+use model_parts::{AccountsWhere, Query};
 use moments::capped_moment_text;
 use std::alloc::Global;
 use std::io::{self, Write};

@@ -1,7 +1,7 @@
 //! A table of the page: the first of the rows that are asked for, and how many these are.
 ghost use Rattle.std.specs.Prelude.{IfOk, OnOk};
 ghost use Rattle.std.specs.{Io.KnownBytes.Appends, List.filter};
-ghost use Rattle.model_lives.specs.Above.{above as rows_above};
+ghost use Rattle.model_parts.specs.Above.{above as rows_above};
 ghost use Rattle.store_api.specs.Sight.{ForTables};
 ghost use Rattle.app_page.specs.Page.{IsShown, ShowsFirst, count_html, if_room, table_html};
 ghost use Rattle.app_reports.specs.Reported.{Reports};
@@ -10,7 +10,7 @@ use crate::html::write_text;
 use crate::rows::PageRow;
 use app_reports::ReportFault;
 use desk_book::Row;
-use model_lives::Query;
+use model_parts::Query;
 use std::alloc::Global;
 use std::io::{self, Write};
 use store_api::{LookUps, RowsAbove};

@@ -6,8 +6,8 @@ use Rattle.std.specs.{Prelude.◌==◌, List.sum_by}
 use Rattle.app_tasks.specs.Metrics.{challenges_waiting}
 use Rattle.desk_model.specs.{Authorization.is_pending, Kept.EachOf, Tables.Tables, declared.rows.AuthorizationRow.AuthorizationRow}
 use Rattle.model_laws.proofs.{Basics.each, Basics.eq_turn, Basics.map-each, Local.filters_swap}
-use Rattle.model_lives.proofs.Lists.{filtered_each}
-use Rattle.model_lives.specs.{LookUps.AreWaiting, LookUps.bare_authorizations, LookUps.waiting_of, Thinned.without_challenges}
+use Rattle.model_parts.proofs.Lists.{filtered_each}
+use Rattle.model_parts.specs.{LookUps.AreWaiting, LookUps.bare_authorizations, LookUps.waiting_of, Thinned.without_challenges}
 use Rattle.store_api.proofs.WaitingRows.{numbered}
 use Rattle.store_columns.specs.declared.columns.JoinedChallenge.{JoinedChallenge}
 

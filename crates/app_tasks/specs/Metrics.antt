@@ -6,7 +6,7 @@ use Rattle.desk_model.specs.{Authorization.is_pending, Tables.Tables, declared.r
 use Rattle.http_routes.specs.declared.routes.Route.{Route}
 use Rattle.http_routes.specs.declared.routes.Route.TheVariants as route
 use Rattle.model_laws.specs.Ordered.{IsOrdered}
-use Rattle.model_lives.specs.LookUps.{orders_processing, waiting_of}
+use Rattle.model_parts.specs.LookUps.{orders_processing, waiting_of}
 use Rattle.app_tasks.specs.{Totals.calls_of, Totals.faults_of, declared.snapshot.Reading.Reading, declared.snapshot.Snapshot.Snapshot}
 use Rattle.app_tasks.specs.{declared.totals.CallCounts.CallCounts, declared.totals.Totals.Totals}
 use Rattle.app_tasks.specs.declared.metrics.TheConstants as head

@@ -3,7 +3,7 @@ ghost use Rattle.std.specs.Prelude.{◌≡◌, IfOk, count_by, length};
 ghost use Rattle.app_tasks.specs.Metrics.{IsSnapshotOf, challenges_waiting, snapshot_of};
 ghost use Rattle.desk_model.specs.Authorization.{is_pending};
 ghost use Rattle.model_laws.specs.Ordered.{IsOrdered};
-ghost use Rattle.model_lives.specs.LookUps.{orders_processing};
+ghost use Rattle.model_parts.specs.LookUps.{orders_processing};
 ghost use Rattle.store_api.specs.Sight.{ForTables, Reads};
 
 use crate::totals::Totals;

@@ -4,7 +4,7 @@ use Rattle.std.proofs.lemmas.Bool.{eqb-true}
 use Rattle.std.specs.Prelude.{nat_eq, length, ◌↔◌, IsErrAnd}
 use Rattle.desk_model.specs.{Entry.History, Change.applied, Limits.last_moment, Decide.after, Legal.Legal, Run.IsFormedCall, Tables.Tables}
 use Rattle.desk_model.specs.{Tables.picture, declared.call.Call.Call, declared.reply.Reply.Reply, declared.rows.Change.Change}
-use Rattle.model_lives.specs.IsEnough.{IsEnoughFor}
+use Rattle.model_parts.specs.IsEnough.{IsEnoughFor}
 use Rattle.store_laws.proofs.FlatTexts.{picture_is_stored_book}
 use Rattle.desk_core.specs.Decided.{IsDecision}
 use Rattle.core_rules.specs.declared.fault.CoreFault.{CoreFault}

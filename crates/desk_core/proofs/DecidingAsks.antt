@@ -21,8 +21,8 @@ use Rattle.desk_core.proofs.Deciding.{after_is, counters, decides, decides_none,
 use Rattle.desk_core.proofs.{NumbersAfter.numbers_left, QuietRows.nonce_rows, SameVerdicts.signed_same, Parts.asks_whole, Texts.have_texts}
 use Rattle.desk_core.proofs.SameReplies.{effects-append, nonce_effects, verdict_reply_same, verdict_same}
 use Rattle.desk_core.proofs.Spaced.{no_bytes, no_numbers, office_spaced, pieces_bounded, signed_spaced}
-use Rattle.model_lives.proofs.Work.{enough_ordered}
-use Rattle.model_lives.specs.{AnswersAs.AnswersAs, IsEnough.IsEnoughFor}
+use Rattle.model_parts.proofs.Work.{enough_ordered}
+use Rattle.model_parts.specs.{AnswersAs.AnswersAs, IsEnough.IsEnoughFor}
 
 -- ---- a nonce is issued and nothing else
 

@@ -17,8 +17,8 @@ use Rattle.core_rules.specs.declared.fault.CoreFault.TheVariants as core
 use Rattle.desk_core.proofs.{Deciding.counters, Deciding.fits_issued, Deciding.fits_nonces, Deciding.spent_same, DecidingAsks.judged, DecidingAsks.judged_left}
 use Rattle.desk_core.proofs.{DecidingAsks.passed_is, DecidingAsks.signed_is, NumbersAfter.numbers_left, NumbersAfter.numbers_spent, Parts.faults_whole}
 use Rattle.desk_core.proofs.{Spaced.signed_spaced, QuietRows.nonce_rows, QuietRows.nonces_more}
-use Rattle.model_lives.proofs.Work.{enough_ordered}
-use Rattle.model_lives.specs.{AnswersAs.AnswersAs, IsEnough.IsEnoughFor}
+use Rattle.model_parts.proofs.Work.{enough_ordered}
+use Rattle.model_parts.specs.{AnswersAs.AnswersAs, IsEnough.IsEnoughFor}
 
 -- too many nonces
 nonces_over : (G : History) → last_number < length (nonces G) → numbers_fit G ≡ false

@@ -5,7 +5,8 @@ use Rattle.desk_model.specs.Rules.{office_verdict, own, signed_verdict, kept, na
 use Rattle.desk_model.specs.{Questions.account_on, Questions.account_with_key, Tables.Tables, declared.call.OfficeAsk.OfficeAsk, declared.call.Signed.Signed}
 use Rattle.desk_model.specs.{declared.call.Target.Target, declared.rows.AccountRow.AccountRow, declared.verdict.Verdict.Verdict}
 use Rattle.model_laws.proofs.Serving.{all_may_be_wanted}
-use Rattle.model_lives.proofs.{Judged.OfAccount as by, Judged.OfOffice as way, Judged.OfRequest, Judged.office_judged, Judged.request_judged, Lists.same_number}
+use Rattle.model_lives.proofs.Judged.{OfAccount as by, OfOffice as way, OfRequest, office_judged, request_judged}
+use Rattle.model_parts.proofs.Lists.{same_number}
 use Rattle.desk_core.specs.There.{NamesRows}
 
 -- ---- rows that were found

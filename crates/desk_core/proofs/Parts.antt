@@ -8,9 +8,9 @@ use Rattle.desk_model.specs.declared.call.Ask.TheVariants as ask
 use Rattle.desk_core.specs.{HasTexts.HasTexts, Outcomes.IsAskFault, Outcomes.Issues, Outcomes.MeetsAsk, Outcomes.MeetsSigned, Outcomes.Passes, Outcomes.Settles}
 use Rattle.core_replies.specs.Shown.{HasMoments}
 use Rattle.model_laws.specs.Ordered.{IsOrdered}
-use Rattle.model_lives.specs.AnswersAs.{AnswersAs, CarriesOutAs, IssuesAs, PassesAs, SettlesAs}
-use Rattle.model_lives.specs.Thinned.{Thinning, thinned, with_challenges}
-use Rattle.model_lives.proofs.Lists.{filtered_each}
+use Rattle.model_parts.specs.AnswersAs.{AnswersAs, CarriesOutAs, IssuesAs, PassesAs, SettlesAs}
+use Rattle.model_parts.specs.Thinned.{Thinning, thinned, with_challenges}
+use Rattle.model_parts.proofs.Lists.{filtered_each}
 use Rattle.model_laws.proofs.Basics.{each, each-map}
 use Rattle.core_rules.specs.declared.fault.CoreFault.{CoreFault}
 

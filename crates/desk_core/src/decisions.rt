@@ -13,7 +13,7 @@ ghost use Rattle.desk_model.specs.declared.entry.Entry.{Entry as EntryOf};
 ghost use Rattle.desk_core.specs.{HasTexts.HasTexts, Room.IsIssueFault, There.NamesRows};
 ghost use Rattle.desk_core.specs.Decided.{IsDecision, IsFaultOf};
 ghost use Rattle.identifiers.specs.Parsed.{ask_of};
-ghost use Rattle.model_lives.specs.IsEnough.{IsEnoughFor};
+ghost use Rattle.model_parts.specs.IsEnough.{IsEnoughFor};
 ghost use Rattle.core_rules.specs.Needs.{IsJudged, NumbersLeft};
 ghost use Rattle.desk_core.specs.Outcomes.{IsAskFault, IsPassedFault, IsShort, IsSignedFault, MeetsAsk, MeetsSigned, Passes, Settles};
 ghost use Rattle.core_changes.specs.Recorded.{GoesOn, IsAt, IsRecorded, IsUntouched};

@@ -9,8 +9,8 @@ use Rattle.desk_model.specs.declared.{objects.Nonce.Nonce, rows.AuthorizationRow
 use Rattle.desk_model.specs.declared.{status.AuthzStatus.AuthzStatus, status.OrderStatus.OrderStatus, rows.Change.TheVariants.PutNonce}
 use Rattle.desk_model.specs.declared.{rows.Change.TheVariants.RemoveNonce, rows.Change.TheVariants.PutAuthorization, rows.Change.TheVariants.PutOrder}
 use Rattle.model_laws.specs.Ordered.{Ascends}
-use Rattle.model_lives.proofs.Lists.{each_filtered}
-use Rattle.model_lives.specs.LookUps.{authorizations_past, nonces_before, nonces_numbered, orders_past}
+use Rattle.model_parts.proofs.Lists.{each_filtered}
+use Rattle.model_parts.specs.LookUps.{authorizations_past, nonces_before, nonces_numbered, orders_past}
 use Rattle.sql_tables.proofs.{Keyed.ranked, Sorting.each_put}
 use Rattle.sql_read.specs.Earliest.{IsEarliest, authorization_ends, issues, order_ends}
 use Rattle.desk_store.specs.Known.{EndFrom, IsKnownOf, bound_of, earlier, known_nonce, lowered, nonce_place, nothing, without}

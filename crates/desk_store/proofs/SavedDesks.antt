@@ -11,8 +11,8 @@ use Rattle.desk_model.specs.{declared.rows.ChallengeRow.ChallengeRow, declared.r
 use Rattle.sql_write.specs.{Committing.GoesBack, Committing.HasCommitted, Committing.IsBeforeCommit, Committing.IsLeft, declared.fault.SaveFault.SaveFault}
 use Rattle.sql_write.specs.{Fitting.FitAfter, Fitting.Saves as Puts, Stored.HasSome, Stored.IsRow, Stored.IsMadeAs, Stored.AreFound, Stored.IsPartOf}
 use Rattle.sql_schema.specs.Stays.{Asks}
-use Rattle.model_lives.specs.Thinned.{with_challenges, with_orders}
-use Rattle.model_lives.proofs.Lists.{filtered_each}
+use Rattle.model_parts.specs.Thinned.{with_challenges, with_orders}
+use Rattle.model_parts.proofs.Lists.{filtered_each}
 use Rattle.sql_write.proofs.{StoredRows.all_of, Numbered.find_none, OrderedFit.ordered_fit}
 use Rattle.store_api.specs.Storing.{Fit, HasChanges, HasSaved, IsCutFrom, SavesOf}
 use Rattle.store_api.specs.{Sight.Sight, declared.fault.StorageFault.StorageFault}

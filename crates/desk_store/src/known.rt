@@ -5,11 +5,11 @@ ghost use Rattle.desk_model.specs.Change.{applied, applied_one};
 ghost use Rattle.desk_model.specs.Derived.{authz_code, order_code};
 ghost use Rattle.desk_model.specs.Tables.{Tables};
 ghost use Rattle.model_laws.specs.Ordered.{Ascends};
-ghost use Rattle.model_lives.specs.LookUps.{nonces_where};
+ghost use Rattle.model_parts.specs.LookUps.{nonces_where};
 ghost use Rattle.desk_store.specs.Known.{IsKnownOf, bound_of, earlier, known_nonce, lowered, nonce_place, nothing, without};
 
 use desk_model::{AuthzStatus, Change, Meta, Nonce, OrderStatus};
-use model_lives::NoncesWhere;
+use model_parts::NoncesWhere;
 use std::alloc::{AllocError, Global};
 
 /// What is known of the tables of a store without asking for it.

@@ -3,9 +3,9 @@
 ghost use Rattle.desk_store.specs.Desks.{store_sight, HasTables};
 ghost use Rattle.std.specs.Prelude.{◌≡◌, [], None, IfOk, IsTrue};
 ghost use Rattle.desk_model.specs.Tables.{Tables};
-ghost use Rattle.model_lives.specs.Above.{orders_above};
+ghost use Rattle.model_parts.specs.Above.{orders_above};
 ghost use Rattle.store_passes.specs.Left.{faults_above, faults_of};
-ghost use Rattle.model_lives.specs.LookUps.{authorizations_past, authorizations_where, nonces_before, nonces_where, orders_past, orders_where};
+ghost use Rattle.model_parts.specs.LookUps.{authorizations_past, authorizations_where, nonces_before, nonces_where, orders_past, orders_where};
 ghost use Rattle.store_api.specs.Sight.{ForTables, Reads};
 
 use crate::store::Store;
@@ -13,7 +13,7 @@ use desk_model::{
     AccountRow, AuthorizationRow, AuthzStatus, ChallengeRow, Listed, Meta, Nonce, OrderRow,
     OrderStatus,
 };
-use model_lives::{AccountsWhere, AuthorizationsWhere, NoncesWhere, OrdersWhere};
+use model_parts::{AccountsWhere, AuthorizationsWhere, NoncesWhere, OrdersWhere};
 use sql_read as rows;
 use sqlite::Alter;
 use std::alloc::Global;

@@ -7,7 +7,7 @@ use Rattle.store_columns.specs.{Flat.challenge_rows, Flat.owned_by, declared.col
 use Rattle.model_laws.specs.Distinct.{Distinct}
 use Rattle.desk_model.specs.Derived.{insert_challenge, sorted_challenges}
 use Rattle.desk_model.specs.{Change.put, Tables.Tables, declared.rows.AuthorizationRow.AuthorizationRow, declared.rows.ChallengeRow.ChallengeRow}
-use Rattle.model_lives.specs.Above.{challenges_above, first_of}
+use Rattle.model_parts.specs.Above.{challenges_above, first_of}
 use Rattle.sql_tables.specs.{Layouts.challenge_layout, Sorted.sorted_by}
 use Rattle.sql_tables.proofs.{Sorting.IsApart, Sorting.each_sorted}
 use Rattle.sql_read.proofs.UnderLemmas.{own_rows}

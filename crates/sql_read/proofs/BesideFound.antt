@@ -6,7 +6,7 @@ use Rattle.sqlite.specs.{Held.Held, Held.state, Store.Ghosts, declared.types.Val
 use Rattle.store_columns.specs.{Flat.answer_key, Flat.bare, Flat.challenge_rows, Flat.without_challenges, declared.columns.JoinedChallenge.JoinedChallenge}
 use Rattle.store_columns.specs.declared.columns.Owned.{Owned}
 use Rattle.model_laws.proofs.{Basics.each, Basics.each_all, Basics.map-each, Keeps.each-filter}
-use Rattle.model_lives.specs.LookUps.{authorizations_numbered, owners_of}
+use Rattle.model_parts.specs.LookUps.{authorizations_numbered, owners_of}
 use Rattle.desk_model.specs.{Kept.EachOf, Tables.Tables, declared.rows.AuthorizationRow.AuthorizationRow, declared.rows.ChallengeRow.ChallengeRow}
 use Rattle.store_book.specs.IsBook.{IsStoredBook}
 use Rattle.sql_schema.specs.declared.challenges.TheConstants as chall

@@ -17,7 +17,7 @@ use Rattle.sqlite_sql.proofs.QueryLemmas.{output_cmp_total}
 use Rattle.model_laws.proofs.Basics.{list_any-map, list_any-same}
 use Rattle.desk_model.specs.{Derived.authz_code, Derived.order_code, Document.authorization_status_text, Document.order_status_text, Kept.EachOf, Tables.Tables}
 use Rattle.desk_model.specs.{declared.objects.Nonce.Nonce, declared.status.AuthzStatus.AuthzStatus, declared.status.OrderStatus.OrderStatus}
-use Rattle.model_lives.specs.Above.{first_of}
+use Rattle.model_parts.specs.Above.{first_of}
 use Rattle.sql_tables.specs.{Holds.Holds, Layouts.HasRows, Layouts.Layout, Layouts.authorization_layout, Layouts.nonce_layout, Layouts.order_layout}
 use Rattle.sql_tables.proofs.{Holding.authorizations_held, Holding.nonces_held, Holding.orders_held, Keyed.three}
 use Rattle.sql_read.specs.Earliest.{FindsEarliest, IsEarliest, authorization_ends, first_number, issues, order_ends}

@@ -5,7 +5,7 @@ use Rattle.std.specs.Prelude.{◌==◌}
 use Rattle.sqlite.specs.{Held.Held, Held.state, Store.Ghosts, declared.types.Value.TheVariants.Int}
 use Rattle.store_columns.specs.{Flat.answer_key, Flat.bare, Flat.challenge_rows, Flat.without_challenges, declared.columns.JoinedChallenge.JoinedChallenge}
 use Rattle.model_laws.proofs.{Basics.each, Basics.each-map, Basics.map-each, Keeps.each-filter, RowLists.ascends_filter}
-use Rattle.model_lives.specs.LookUps.{AreWaiting, bare_authorizations}
+use Rattle.model_parts.specs.LookUps.{AreWaiting, bare_authorizations}
 use Rattle.desk_model.specs.{Kept.EachOf, Tables.Tables, declared.rows.AuthorizationRow.AuthorizationRow}
 use Rattle.store_book.specs.IsBook.{IsStoredBook}
 use Rattle.sql_schema.specs.declared.challenges.TheConstants as chall

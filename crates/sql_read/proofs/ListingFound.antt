@@ -9,7 +9,7 @@ use Rattle.store_columns.specs.{Flat.listed_rows, Flat.without_listed, Limits.Is
 use Rattle.store_book.proofs.KeyedRows.{each_moved}
 use Rattle.model_laws.proofs.{Basics.each, Basics.each_all, Basics.each_of_map, Keeps.each-filter}
 use Rattle.desk_model.specs.{Kept.EachOf, Tables.Tables, declared.rows.Listed.Listed, declared.rows.OrderRow.OrderRow}
-use Rattle.model_lives.specs.LookUps.{orders_listing, orders_numbered}
+use Rattle.model_parts.specs.LookUps.{orders_listing, orders_numbered}
 use Rattle.store_book.specs.IsBook.{IsStoredBook}
 use Rattle.sql_schema.specs.declared.orders.TheConstants as ord
 use Rattle.sql_tables.specs.{Hidden.row_of, Holds.Holds}

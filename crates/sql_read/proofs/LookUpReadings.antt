@@ -9,12 +9,12 @@ use Rattle.desk_model.specs.Document.{authorization_status_text, challenge_statu
 use Rattle.desk_model.specs.{declared.status.AuthzStatus.AuthzStatus, declared.status.OrderStatus.OrderStatus}
 use Rattle.desk_model.specs.declared.status.ChallengeStatus.TheVariants as challenge
 use Rattle.desk_model.specs.declared.status.OrderStatus.TheVariants as order
-use Rattle.model_lives.specs.{declared.queries.AccountsWhere.AccountsWhere, declared.queries.AuthorizationsWhere.AuthorizationsWhere}
-use Rattle.model_lives.specs.{declared.queries.NoncesWhere.NoncesWhere, declared.queries.OrdersWhere.OrdersWhere}
-use Rattle.model_lives.specs.declared.queries.AccountsWhere.TheVariants as accounts_by
-use Rattle.model_lives.specs.declared.queries.AuthorizationsWhere.TheVariants as authorizations_by
-use Rattle.model_lives.specs.declared.queries.NoncesWhere.TheVariants as nonces_by
-use Rattle.model_lives.specs.declared.queries.OrdersWhere.TheVariants as orders_by
+use Rattle.model_parts.specs.{declared.queries.AccountsWhere.AccountsWhere, declared.queries.AuthorizationsWhere.AuthorizationsWhere}
+use Rattle.model_parts.specs.{declared.queries.NoncesWhere.NoncesWhere, declared.queries.OrdersWhere.OrdersWhere}
+use Rattle.model_parts.specs.declared.queries.AccountsWhere.TheVariants as accounts_by
+use Rattle.model_parts.specs.declared.queries.AuthorizationsWhere.TheVariants as authorizations_by
+use Rattle.model_parts.specs.declared.queries.NoncesWhere.TheVariants as nonces_by
+use Rattle.model_parts.specs.declared.queries.OrdersWhere.TheVariants as orders_by
 use Rattle.sql_schema.specs.Schema.{desk_schema}
 use Rattle.sql_schema.specs.declared.accounts.TheConstants as account
 use Rattle.sql_schema.specs.declared.authorizations.TheConstants as authz

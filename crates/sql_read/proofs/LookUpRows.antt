@@ -7,10 +7,10 @@ use Rattle.store_columns.specs.Flat.{summarized, without_challenges, without_lis
 use Rattle.store_columns.specs.Limits.{IsStoredAccount, IsStoredAuthorization, IsStoredNonce, IsStoredOrder}
 use Rattle.desk_model.specs.{Tables.Tables, declared.objects.Nonce.Nonce, declared.rows.AccountRow.AccountRow, declared.rows.AuthorizationRow.AuthorizationRow}
 use Rattle.desk_model.specs.declared.rows.OrderRow.{OrderRow}
-use Rattle.model_lives.specs.{Above.accounts_above, Above.authorizations_above, LookUps.nonces_where, LookUps.wants_account, LookUps.wants_authorization}
-use Rattle.model_lives.specs.{Above.first_of, LookUps.authorizations_where, declared.queries.NoncesWhere.NoncesWhere, declared.queries.OrdersWhere.OrdersWhere}
-use Rattle.model_lives.specs.{Above.orders_above, LookUps.orders_of, LookUps.orders_where, LookUps.wants_nonce, LookUps.wants_order}
-use Rattle.model_lives.specs.{LookUps.accounts_where, declared.queries.AccountsWhere.AccountsWhere, declared.queries.AuthorizationsWhere.AuthorizationsWhere}
+use Rattle.model_parts.specs.{Above.accounts_above, Above.authorizations_above, LookUps.nonces_where, LookUps.wants_account, LookUps.wants_authorization}
+use Rattle.model_parts.specs.{Above.first_of, LookUps.authorizations_where, declared.queries.NoncesWhere.NoncesWhere, declared.queries.OrdersWhere.OrdersWhere}
+use Rattle.model_parts.specs.{Above.orders_above, LookUps.orders_of, LookUps.orders_where, LookUps.wants_nonce, LookUps.wants_order}
+use Rattle.model_parts.specs.{LookUps.accounts_where, declared.queries.AccountsWhere.AccountsWhere, declared.queries.AuthorizationsWhere.AuthorizationsWhere}
 use Rattle.sql_tables.specs.Holds.{Holds}
 use Rattle.sql_read.specs.Queries.{account_query, authorization_query, nonce_query, number, order_query}
 use Rattle.sql_read.specs.{Bounded.bounded, declared.formats.Format.TheVariants.Second}

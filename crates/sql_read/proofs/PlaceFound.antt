@@ -8,7 +8,7 @@ use Rattle.store_columns.specs.{Flat.listed_rows, Flat.owned_by, Flat.without_ch
 use Rattle.store_book.specs.IsBook.{IsStoredBook}
 use Rattle.model_laws.specs.Ordered.{Ascends}
 use Rattle.model_laws.proofs.{Basics.each, Basics.each-append, Basics.each-map, Basics.each_all, Basics.each_parts, Keeps.each-filter, RowLists.ascends_filter}
-use Rattle.model_lives.specs.LookUps.{bare_authorizations, orders_processing}
+use Rattle.model_parts.specs.LookUps.{bare_authorizations, orders_processing}
 use Rattle.desk_model.specs.{Kept.EachOf, Tables.Tables, declared.rows.AuthorizationRow.AuthorizationRow, declared.rows.Listed.Listed}
 use Rattle.desk_model.specs.declared.rows.OrderRow.{OrderRow}
 use Rattle.sql_tables.specs.Holds.{Holds}

@@ -5,7 +5,7 @@ use Rattle.sqlite_value.specs.Order.{Row}
 use Rattle.sqlite_trees.specs.Tree.{Trees}
 use Rattle.sqlite_trees.proofs.ListLemmas.{map-flat_map}
 use Rattle.sqlite_sql.specs.{Query.Join, Query.Output, Query.Query, Query.inner, Query.matches, Query.output, Term.Env, Term.Term}
-use Rattle.model_lives.proofs.Lists.{filter_nothing}
+use Rattle.model_parts.proofs.Lists.{filter_nothing}
 use Rattle.desk_model.specs.Kept.{EachOf}
 
 -- ---- tests

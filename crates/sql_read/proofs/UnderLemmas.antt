@@ -8,7 +8,7 @@ use Rattle.model_laws.proofs.{Basics.each, Basics.each_both, Basics.less_differs
 use Rattle.model_laws.specs.Ordered.{Ascends}
 use Rattle.desk_model.specs.{Kept.EachOf, Tables.Tables}
 use Rattle.desk_model.specs.declared.rows.{AuthorizationRow.AuthorizationRow, ChallengeRow.ChallengeRow, Listed.Listed, OrderRow.OrderRow}
-use Rattle.model_lives.specs.LookUps.{challenges, orders_listing, owners_of, places}
+use Rattle.model_parts.specs.LookUps.{challenges, orders_listing, owners_of, places}
 use Rattle.sql_tables.specs.Layouts.{challenge_layout}
 use Rattle.store_book.specs.Nesting.{child_rows}
 use Rattle.sql_read.specs.Under.{HasItsChallenges, HasItsListed, rows_under}

@@ -7,8 +7,8 @@ use Rattle.store_columns.specs.{Flat.challenge_rows, declared.columns.Owned.Owne
 use Rattle.model_laws.specs.{Distinct.Distinct, Ordered.Ascends}
 use Rattle.model_laws.proofs.Basics.{each, list_any-map}
 use Rattle.desk_model.specs.{Kept.EachOf, Legal.is_processing_challenge, Tables.Tables, declared.rows.ChallengeRow.ChallengeRow}
-use Rattle.model_lives.specs.LookUps.{AreNumbers, AreWaiting, owners_processing}
-use Rattle.model_lives.proofs.{Found.any_filter, Loading.any_flat}
+use Rattle.model_parts.specs.LookUps.{AreNumbers, AreWaiting, owners_processing}
+use Rattle.model_parts.proofs.{Found.any_filter, Loading.any_flat}
 use Rattle.sql_tables.specs.{Layouts.challenge_layout, Sorted.sorted_by}
 use Rattle.sql_tables.proofs.Sorting.{filter_ascending, sorted_moves}
 use Rattle.sql_read.proofs.UnderLemmas.{authorizations_have, own_ascend}

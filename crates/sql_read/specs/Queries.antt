@@ -3,12 +3,12 @@ use Rattle.std.specs.Prelude.{ℕ, List, [], ◌∷◌, pos}
 use Rattle.sqlite.specs.{Order.Row, Values.bound, declared.types.Value.TheVariants.Int, declared.types.Value.TheVariants.Text}
 use Rattle.desk_model.specs.Document.{authorization_status_text, order_status_text}
 use Rattle.desk_model.specs.declared.status.OrderStatus.TheVariants as order
-use Rattle.model_lives.specs.{declared.queries.AccountsWhere.AccountsWhere, declared.queries.AuthorizationsWhere.AuthorizationsWhere}
-use Rattle.model_lives.specs.{declared.queries.NoncesWhere.NoncesWhere, declared.queries.OrdersWhere.OrdersWhere}
-use Rattle.model_lives.specs.declared.queries.AccountsWhere.TheVariants as accounts_by
-use Rattle.model_lives.specs.declared.queries.AuthorizationsWhere.TheVariants as authorizations_by
-use Rattle.model_lives.specs.declared.queries.NoncesWhere.TheVariants as nonces_by
-use Rattle.model_lives.specs.declared.queries.OrdersWhere.TheVariants as orders_by
+use Rattle.model_parts.specs.{declared.queries.AccountsWhere.AccountsWhere, declared.queries.AuthorizationsWhere.AuthorizationsWhere}
+use Rattle.model_parts.specs.{declared.queries.NoncesWhere.NoncesWhere, declared.queries.OrdersWhere.OrdersWhere}
+use Rattle.model_parts.specs.declared.queries.AccountsWhere.TheVariants as accounts_by
+use Rattle.model_parts.specs.declared.queries.AuthorizationsWhere.TheVariants as authorizations_by
+use Rattle.model_parts.specs.declared.queries.NoncesWhere.TheVariants as nonces_by
+use Rattle.model_parts.specs.declared.queries.OrdersWhere.TheVariants as orders_by
 use Rattle.sql_schema.specs.declared.accounts.TheConstants as account
 use Rattle.sql_schema.specs.declared.authorizations.TheConstants as authz
 use Rattle.sql_schema.specs.declared.nonces.TheConstants as nonce

@@ -1,6 +1,6 @@
 //! Accounts, read from the rows of an answer and looked up.
 ghost use Rattle.std.specs.Prelude.{◌≡◌};
-ghost use Rattle.model_lives.specs.{Above.accounts_above, Above.first_of, LookUps.accounts_where};
+ghost use Rattle.model_parts.specs.{Above.accounts_above, Above.first_of, LookUps.accounts_where};
 ghost use Rattle.sql_read.specs.{Looking.LooksUp, Queries.account_query, Queries.asked};
 ghost use Rattle.sql_read.specs.Spelled.{FitsAccount, account_in};
 
@@ -8,7 +8,7 @@ use crate::fault::ReadFault;
 use crate::rows::{Query, Selected, find_rows};
 use crate::values::{both, number_or_none, numbers, text, text_or_none};
 use desk_model::AccountRow;
-use model_lives::AccountsWhere;
+use model_parts::AccountsWhere;
 use sql_schema::accounts;
 use sqlite::{Alter, Connection, Error, Row};
 use std::alloc::Global;

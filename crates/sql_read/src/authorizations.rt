@@ -1,8 +1,8 @@
 //! Authorizations, each with its challenges, read from the rows of answers and looked up.
 ghost use Rattle.std.specs.Prelude.{◌≡◌, ◌<◌, IfErr, IfOk};
 ghost use Rattle.store_columns.specs.{Flat.without_challenges};
-ghost use Rattle.model_lives.specs.Above.{authorizations_above, challenges_above, first_of};
-ghost use Rattle.model_lives.specs.LookUps.{authorizations_where, bare_authorizations};
+ghost use Rattle.model_parts.specs.Above.{authorizations_above, challenges_above, first_of};
+ghost use Rattle.model_parts.specs.LookUps.{authorizations_where, bare_authorizations};
 ghost use Rattle.sql_read.specs.Earliest.{TellsEarliest, authorization_ends};
 ghost use Rattle.sql_read.specs.Failures.{IsOfNoDevice, IsOutOfMemory};
 ghost use Rattle.sql_read.specs.Looking.{LooksUp};
@@ -14,7 +14,7 @@ use crate::fault::ReadFault;
 use crate::rows::{Parted, Query, Selected, earliest, find_rows, find_wholes, without_owners};
 use crate::values::{both, bytes, number_or_none, numbers, numbers_or_none, text, text_or_none};
 use desk_model::{AuthorizationRow, AuthzStatus, ChallengeRow, Sequence};
-use model_lives::AuthorizationsWhere;
+use model_parts::AuthorizationsWhere;
 use sql_schema::{authorizations, challenges};
 use sqlite::{Alter, Connection, Error, Row};
 use std::alloc::Global;

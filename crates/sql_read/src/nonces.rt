@@ -1,6 +1,6 @@
 //! Nonces, read from the rows of an answer and looked up.
 ghost use Rattle.std.specs.Prelude.{◌≡◌};
-ghost use Rattle.model_lives.specs.LookUps.{nonces_where};
+ghost use Rattle.model_parts.specs.LookUps.{nonces_where};
 ghost use Rattle.sql_read.specs.Earliest.{TellsEarliest, issues};
 ghost use Rattle.sql_read.specs.{Looking.LooksUp, Queries.asked, Queries.nonce_query};
 ghost use Rattle.sql_read.specs.Spelled.{FitsNonce, nonce_in};
@@ -9,7 +9,7 @@ use crate::fault::ReadFault;
 use crate::rows::{Query, Selected, earliest, find_rows};
 use crate::values::{bytes, numbers};
 use desk_model::Nonce;
-use model_lives::NoncesWhere;
+use model_parts::NoncesWhere;
 use sql_schema::nonces;
 use sqlite::{Alter, Connection, Error, Row};
 use std::alloc::Global;

@@ -4,8 +4,8 @@ ghost use Rattle.store_columns.specs.Alike.{without_bytes};
 ghost use Rattle.sql_read.specs.Failures.{IsOfNoDevice, IsOutOfMemory};
 ghost use Rattle.std.specs.List.{flat_map};
 ghost use Rattle.store_columns.specs.Flat.{without_listed};
-ghost use Rattle.model_lives.specs.Above.{first_of, orders_above};
-ghost use Rattle.model_lives.specs.LookUps.{orders_listing, orders_numbered, orders_processing, orders_where, summaries_of};
+ghost use Rattle.model_parts.specs.Above.{first_of, orders_above};
+ghost use Rattle.model_parts.specs.LookUps.{orders_listing, orders_numbered, orders_processing, orders_where, summaries_of};
 ghost use Rattle.sql_read.specs.Earliest.{TellsEarliest, order_ends};
 ghost use Rattle.sql_read.specs.{Looking.LooksUp, Queries.asked, Queries.order_query, Under.HasItsListed};
 ghost use Rattle.sql_read.specs.Spelled.{FitsListed, FitsOrder, FitsSummary, listed_in, order_in, summary_in};
@@ -18,7 +18,7 @@ use crate::values::{
     both, bytes_or_none, no_bytes_or_none, numbers, numbers_or_none, text, text_or_none,
 };
 use desk_model::{OrderRow, OrderStatus, Sequence};
-use model_lives::OrdersWhere;
+use model_parts::OrdersWhere;
 use sql_schema::{listed, orders};
 use sqlite::{Alter, Connection, Error, Row};
 use std::alloc::Global;

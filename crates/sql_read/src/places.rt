@@ -2,7 +2,7 @@
 ghost use Rattle.std.specs.Prelude.{◌≡◌, ◌∷◌, [], map};
 ghost use Rattle.store_columns.specs.Flat.{listed_rows};
 ghost use Rattle.desk_model.specs.Kept.{EachOf};
-ghost use Rattle.model_lives.specs.LookUps.{bare_authorizations, orders_processing};
+ghost use Rattle.model_parts.specs.LookUps.{bare_authorizations, orders_processing};
 ghost use Rattle.sql_read.specs.Looking.{LooksUp};
 ghost use Rattle.sql_read.specs.Spelled.{FitsPlace, place_in};
 

@@ -3,7 +3,7 @@
 ghost use Rattle.std.specs.Prelude.{◌≡◌, [], ◌∷◌, map, IfErr, IfOk};
 ghost use Rattle.std.specs.List.{flat_map};
 ghost use Rattle.desk_model.specs.Kept.{EachOf};
-ghost use Rattle.model_lives.specs.LookUps.{AreWaiting, authorizations_numbered, bare_authorizations, owners_of};
+ghost use Rattle.model_parts.specs.LookUps.{AreWaiting, authorizations_numbered, bare_authorizations, owners_of};
 ghost use Rattle.sql_read.specs.Joined.{gathered, joined_row};
 ghost use Rattle.sql_read.specs.{LookUpFaults.IsOfMemory, Looking.LooksUp};
 ghost use Rattle.sql_read.specs.Spelled.{FitsJoined, joined_in};

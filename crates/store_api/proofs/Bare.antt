@@ -4,7 +4,7 @@ use Rattle.std.proofs.lemmas.Grind.{flat_map-append}
 use Rattle.std.specs.{Prelude.◌==◌, Prelude.nat_lt, List.flat_map}
 use Rattle.desk_model.specs.{Change.put, Derived.numbers_of, Tables.Tables, declared.rows.OrderRow.OrderRow}
 use Rattle.model_laws.specs.Placing.{puts}
-use Rattle.model_lives.specs.{LookUps.authorizations_numbered, Loaded.listed_authorizations}
+use Rattle.model_parts.specs.{LookUps.authorizations_numbered, Loaded.listed_authorizations}
 
 module _ {X : Type 0} (number : X → ℕ) (bare : X → X) (same : (x : X) → number (bare x) ≡ number x) where
   -- a bare row is put where the row would be

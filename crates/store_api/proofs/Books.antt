@@ -12,7 +12,7 @@ use Rattle.desk_model.specs.declared.call.OfficeAsk.TheVariants as office
 use Rattle.model_laws.specs.Distinct.{Distinct}
 use Rattle.model_laws.proofs.Basics.{each, each_both, each_parts, each-append, list_any-map}
 use Rattle.model_laws.proofs.{Distinctness.distinct-append, Distinctness.distinct_parts, RowLists.ascends_filter, Finds.found_passes}
-use Rattle.model_lives.proofs.Lists.{each_member, filtered_each, turned}
+use Rattle.model_parts.proofs.Lists.{each_member, filtered_each, turned}
 
 -- ---- lists
 

@@ -7,15 +7,15 @@ use Rattle.desk_model.specs.{Asked.asked_names, Asked.asks_orders, Derived.numbe
 use Rattle.desk_model.specs.{declared.rows.AccountRow.AccountRow, declared.rows.AuthorizationRow.AuthorizationRow, declared.rows.OrderRow.OrderRow}
 use Rattle.model_laws.proofs.{Basics.each, Basics.map-each, Basics.more_differs, RowLists.ascends_above, RowLists.ascends_found, RowLists.puts_append}
 use Rattle.model_laws.specs.{Ordered.Ascends, Ordered.IsOrdered, Placing.puts}
-use Rattle.model_lives.specs.MinimalPart.{as_needed, authorization_as_needed, is_whole_authorization, is_whole_order, needed_rows, needs_listed}
-use Rattle.model_lives.specs.MinimalPartLoaded.{minimal_accounts, listed_orders, moved_authorizations, opened_orders, restated_authorizations}
-use Rattle.model_lives.specs.MinimalPartLoaded.{whole_authorizations}
-use Rattle.model_lives.specs.Loaded.{accounts_once, authorizations_asked_of, authorizations_once, listed_authorizations, named_orders, orders_once}
-use Rattle.model_lives.specs.LookUps.{authorizations_numbered, bare_authorizations, summaries_of, orders_of, AreNumbers, orders_processing, owners_processing}
-use Rattle.model_lives.specs.{Thinned.summarized, Thinned.whole_if, Thinned.without_challenges, IsEnough.has_work, IsEnough.is_worked_on}
-use Rattle.model_lives.proofs.MinimalPartLoading.{listed_orders_found, loaded_minimal, whole_authorizations_found, whole_found}
-use Rattle.model_lives.proofs.Lists.{filter_nothing, filter_same, filtered_each}
-use Rattle.model_lives.proofs.{Found.found_table, Loading.of_authorization, Loading.of_order, WorkLoading.listed_loaded, WorkLoading.work_loaded}
+use Rattle.model_parts.specs.MinimalPart.{as_needed, authorization_as_needed, is_whole_authorization, is_whole_order, needed_rows, needs_listed}
+use Rattle.model_parts.specs.MinimalPartLoaded.{minimal_accounts, listed_orders, moved_authorizations, opened_orders, restated_authorizations}
+use Rattle.model_parts.specs.MinimalPartLoaded.{whole_authorizations}
+use Rattle.model_parts.specs.Loaded.{accounts_once, authorizations_asked_of, authorizations_once, listed_authorizations, named_orders, orders_once}
+use Rattle.model_parts.specs.LookUps.{authorizations_numbered, bare_authorizations, summaries_of, orders_of, AreNumbers, orders_processing, owners_processing}
+use Rattle.model_parts.specs.{Thinned.summarized, Thinned.whole_if, Thinned.without_challenges, IsEnough.has_work, IsEnough.is_worked_on}
+use Rattle.model_parts.proofs.MinimalPartLoading.{listed_orders_found, loaded_minimal, whole_authorizations_found, whole_found}
+use Rattle.model_parts.proofs.Lists.{filter_nothing, filter_same, filtered_each}
+use Rattle.model_parts.proofs.{Found.found_table, Loading.of_authorization, Loading.of_order, WorkLoading.listed_loaded, WorkLoading.work_loaded}
 use Rattle.store_api.proofs.{Bare.nested, Bare.puts_bare, Missing.missing_put, Missing.put_number, Missing.rows_at, Missing.with_number}
 use Rattle.store_api.specs.Needing.{lacking, missing, missings}
 use Rattle.desk_book.proofs.SweptRows.{find-moved}

@@ -5,15 +5,15 @@ use Rattle.model_laws.specs.{Ordered.IsOrdered, Placing.puts}
 use Rattle.model_laws.proofs.RowLists.{puts_append}
 use Rattle.desk_model.specs.{Touched.is_named_account, Tables.Tables}
 use Rattle.desk_model.specs.declared.{call.Ask.Ask, rows.AccountRow.AccountRow, rows.AuthorizationRow.AuthorizationRow}
-use Rattle.model_lives.proofs.Found.{found_table, IsFound, found_both, found_by, found_filter}
-use Rattle.model_lives.proofs.Loading.{accounts_named, of_account}
+use Rattle.model_parts.proofs.Found.{found_table, IsFound, found_both, found_by, found_filter}
+use Rattle.model_parts.proofs.Loading.{accounts_named, of_account}
 use Rattle.store_api.proofs.Missing.{missings_put}
 use Rattle.std.specs.{List.list_any, List.flat_map, Prelude.◌||◌, Prelude.bytes_eq, Prelude.◌&&◌, Prelude.if◌then◌else◌}
-use Rattle.model_lives.specs.Loaded.{account_numbers, keys, new_keys, accounts_once, authorizations_once, listing_orders, named_accounts, past_authorizations}
-use Rattle.model_lives.specs.Loaded.{past_orders}
-use Rattle.model_lives.specs.LookUps.{accounts_with_key, accounts_numbered, authorizations_numbered, authorizations_of, orders_numbered, owners_of}
-use Rattle.model_lives.specs.MinimalPart.{needs_holders}
-use Rattle.model_lives.specs.MinimalPartLoaded.{minimal_accounts, holders_of, moved_authorizations, opened_orders, restated_authorizations}
+use Rattle.model_parts.specs.Loaded.{account_numbers, keys, new_keys, accounts_once, authorizations_once, listing_orders, named_accounts, past_authorizations}
+use Rattle.model_parts.specs.Loaded.{past_orders}
+use Rattle.model_parts.specs.LookUps.{accounts_with_key, accounts_numbered, authorizations_numbered, authorizations_of, orders_numbered, owners_of}
+use Rattle.model_parts.specs.MinimalPart.{needs_holders}
+use Rattle.model_parts.specs.MinimalPartLoaded.{minimal_accounts, holders_of, moved_authorizations, opened_orders, restated_authorizations}
 use Rattle.store_api.specs.Needing.{keyed_accounts, missings, with_named, NeedsFor, movable_by, opened_with, restated_by}
 use Rattle.store_api.specs.declared.enough.RowsNeeded.{RowsNeeded}
 

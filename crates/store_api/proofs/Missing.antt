@@ -4,7 +4,7 @@ use Rattle.std.proofs.lemmas.Bool.{eqb-true}
 use Rattle.std.specs.{Prelude.◌==◌, Prelude.◌&&◌, Prelude.◌||◌, Prelude.is_some, List.flat_map, List.list_any}
 use Rattle.model_laws.specs.{Ordered.Ascends, Placing.puts}
 use Rattle.model_laws.proofs.{Basics.each, Basics.each_both, Basics.list_any-same, RowLists.ascends_found, RowLists.puts_append}
-use Rattle.model_lives.proofs.{Cut.at_number, Cut.numbered, Found.any_filter, Found.puts_filter, Lists.filter_same, Lists.filtered_each}
+use Rattle.model_parts.proofs.{Cut.at_number, Cut.numbered, Found.any_filter, Found.puts_filter, Lists.filter_same, Lists.filtered_each}
 use Rattle.desk_model.specs.Kept.{EachOf}
 use Rattle.store_api.specs.Needing.{lacking, missing, missings}
 

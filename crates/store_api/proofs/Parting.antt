@@ -4,8 +4,8 @@ use Rattle.std.specs.Prelude.{Result, Ok, Err, IfOk}
 use Rattle.desk_model.specs.{History.clock, Tables.Tables, Tables.picture, declared.call.Call.Call}
 use Rattle.model_laws.specs.Ordered.{IsOrdered}
 use Rattle.model_laws.proofs.Recorded.{tables_ordered}
-use Rattle.model_lives.specs.IsEnough.{IsEnoughFor, enough}
-use Rattle.model_lives.proofs.{Answering.pictures_stated, Answering.stated_for, Work.minimal_enough}
+use Rattle.model_parts.specs.IsEnough.{IsEnoughFor, enough}
+use Rattle.model_parts.proofs.{Answering.pictures_stated, Answering.stated_for, Work.minimal_enough}
 use Rattle.store_api.specs.{Sight.ForTables, Sight.Reads, Sight.Sight, Storing.Loads, declared.fault.StorageFault.StorageFault}
 
 module _ {S C : Type 0} (v : Sight S C) where

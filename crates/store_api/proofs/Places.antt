@@ -6,7 +6,7 @@ use Rattle.desk_model.specs.{Derived.numbers_of, Kept.EachOf, Tables.Tables}
 use Rattle.desk_model.specs.declared.rows.{AuthorizationRow.AuthorizationRow, Listed.Listed, OrderRow.OrderRow}
 use Rattle.model_laws.proofs.Basics.{each, each-map, map-each}
 use Rattle.model_laws.specs.Ordered.{IsOrdered}
-use Rattle.model_lives.specs.{IsEnough.is_worked_on, Thinned.without_challenges, LookUps.bare_authorizations, LookUps.orders_processing}
+use Rattle.model_parts.specs.{IsEnough.is_worked_on, Thinned.without_challenges, LookUps.bare_authorizations, LookUps.orders_processing}
 use Rattle.store_columns.specs.{Flat.listed_rows, Flat.owned_by, declared.columns.Owned.Owned}
 use Rattle.store_api.proofs.{Lacking.worked_on, Missing.lacking_missings}
 use Rattle.store_api.specs.Needing.{lacking, missings}

@@ -5,8 +5,8 @@ use Rattle.std.specs.{Prelude.◌==◌, List.filter}
 use Rattle.desk_model.specs.{Change.put, Tables.Tables, declared.rows.AuthorizationRow.AuthorizationRow, declared.rows.ChallengeRow.ChallengeRow}
 use Rattle.model_laws.specs.{Ordered.Ascends, Ordered.IsOrdered, Placing.puts}
 use Rattle.model_laws.proofs.{Basics.each, Basics.map-each, RowLists.ascends_filter, RowLists.ascends_map, RowLists.puts_moved}
-use Rattle.model_lives.specs.{IsEnough.has_work, LookUps.AreWaiting, Thinned.waiting_challenges, Thinned.with_challenges, Thinned.without_challenges}
-use Rattle.model_lives.proofs.Lists.{filtered_each}
+use Rattle.model_parts.specs.{IsEnough.has_work, LookUps.AreWaiting, Thinned.waiting_challenges, Thinned.with_challenges, Thinned.without_challenges}
+use Rattle.model_parts.proofs.Lists.{filtered_each}
 use Rattle.store_api.proofs.Lacking.{rows_one}
 use Rattle.store_api.specs.Nesting.{joined, nested}
 use Rattle.store_columns.specs.declared.columns.JoinedChallenge.{JoinedChallenge}

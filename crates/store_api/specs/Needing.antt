@@ -4,11 +4,11 @@ use Rattle.std.specs.List.{flat_map}
 use Rattle.model_laws.specs.Placing.{puts}
 use Rattle.desk_model.specs.{Asked.asked_names, Asked.asks_authorizations, Asked.asks_orders, Tables.Tables, declared.call.Ask.Ask}
 use Rattle.desk_model.specs.{declared.rows.AccountRow.AccountRow, declared.rows.AuthorizationRow.AuthorizationRow, declared.rows.OrderRow.OrderRow}
-use Rattle.model_lives.specs.MinimalPart.{needs_holders, needs_listed, changes_statuses}
-use Rattle.model_lives.specs.Loaded.{account_numbers, authorization_numbers, challenge_numbers, keys, listing_orders, new_keys, order_numbers}
-use Rattle.model_lives.specs.Loaded.{past_authorizations, past_orders}
-use Rattle.model_lives.specs.LookUps.{accounts_numbered, accounts_with_key, authorizations_numbered, authorizations_of, summaries_of, orders_numbered}
-use Rattle.model_lives.specs.LookUps.{owners_of}
+use Rattle.model_parts.specs.MinimalPart.{needs_holders, needs_listed, changes_statuses}
+use Rattle.model_parts.specs.Loaded.{account_numbers, authorization_numbers, challenge_numbers, keys, listing_orders, new_keys, order_numbers}
+use Rattle.model_parts.specs.Loaded.{past_authorizations, past_orders}
+use Rattle.model_parts.specs.LookUps.{accounts_numbered, accounts_with_key, authorizations_numbered, authorizations_of, summaries_of, orders_numbered}
+use Rattle.model_parts.specs.LookUps.{owners_of}
 use Rattle.store_api.specs.{Naming.Names, declared.enough.RowsNeeded.RowsNeeded}
 
 -- these are needed for the ask at the moment

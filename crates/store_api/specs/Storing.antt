@@ -2,7 +2,7 @@
 use Rattle.std.specs.Prelude.{◌≡◌, ◌⊎◌, List, Option, Result, OnOk, IfOk, IfErr}
 use Rattle.desk_model.specs.{Entry.History, Legal.Legal, Change.applied, Tables.Tables, Tables.picture, declared.call.Call.Call, declared.rows.Change.Change}
 use Rattle.model_laws.specs.News.{AreKept}
-use Rattle.model_lives.specs.{IsEnough.IsEnoughFor, Thinned.Thinning, Thinned.thinned}
+use Rattle.model_parts.specs.{IsEnough.IsEnoughFor, Thinned.Thinning, Thinned.thinned}
 use Rattle.store_book.specs.IsBook.{IsStoredBook}
 use Rattle.store_api.specs.{Sight.Sight, Sight.Keeps, Sight.Reads, Sight.Unchanged, declared.fault.StorageFault.StorageFault}
 use Rattle.store_api.specs.declared.fault.StorageFault.TheVariants as fault

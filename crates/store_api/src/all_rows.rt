@@ -9,7 +9,7 @@ use crate::links::add_found;
 use crate::look_ups::LookUps;
 use desk_book::{Book, Table};
 use desk_model::{AccountRow, AuthorizationRow, Nonce, OrderRow};
-use model_lives::{AccountsWhere, AuthorizationsWhere, NoncesWhere, OrdersWhere};
+use model_parts::{AccountsWhere, AuthorizationsWhere, NoncesWhere, OrdersWhere};
 use std::alloc::Global;
 
 /// Rows of each table.

@@ -5,12 +5,12 @@ ghost use Rattle.model_laws.specs.{Ordered.Ascends, Ordered.IsOrdered, Placing.p
 ghost use Rattle.store_columns.specs.Flat.{listed_rows, without_listed};
 ghost use Rattle.desk_model.specs.{Touched.only_meta, Lookup.holds};
 ghost use Rattle.store_api.specs.{Finding.Finds, Finding.LacksMemory, Storing.Loads, Needing.NeedsFor, Needing.lacking};
-ghost use Rattle.model_lives.specs.IsEnough.{challenge_work_rows, enough, is_worked_on, order_work_rows};
-ghost use Rattle.model_lives.specs.{LookUps.orders_processing, Thinned.without_challenges};
+ghost use Rattle.model_parts.specs.IsEnough.{challenge_work_rows, enough, is_worked_on, order_work_rows};
+ghost use Rattle.model_parts.specs.{LookUps.orders_processing, Thinned.without_challenges};
 ghost use Rattle.store_api.specs.Sight.{ForTables, Reads};
 ghost use Rattle.desk_model.specs.Payload.{account_change};
 ghost use Rattle.identifiers.specs.Parsed.{ask_of};
-ghost use Rattle.model_lives.specs.MinimalPart.{is_end, needs_holders, needs_listed, changes_statuses, target_changes_statuses};
+ghost use Rattle.model_parts.specs.MinimalPart.{is_end, needs_holders, needs_listed, changes_statuses, target_changes_statuses};
 
 use crate::fault::StorageFault;
 use crate::links::{add_found, put_lacking};

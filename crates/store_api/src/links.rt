@@ -5,14 +5,14 @@ ghost use Rattle.desk_model.specs.{Tables.Tables, Derived.numbers_of};
 ghost use Rattle.model_laws.specs.Placing.{puts};
 ghost use Rattle.store_api.specs.Finding.{Finds, LacksMemory};
 ghost use Rattle.store_api.specs.Needing.{lacking, missing, missings};
-ghost use Rattle.model_lives.specs.LookUps.{accounts_numbered, authorizations_numbered, authorizations_of, nonces_numbered, authorizations_past};
-ghost use Rattle.model_lives.specs.LookUps.{orders_listing, orders_numbered, orders_past, bare_authorizations};
+ghost use Rattle.model_parts.specs.LookUps.{accounts_numbered, authorizations_numbered, authorizations_of, nonces_numbered, authorizations_past};
+ghost use Rattle.model_parts.specs.LookUps.{orders_listing, orders_numbered, orders_past, bare_authorizations};
 
 use crate::fault::StorageFault;
 use crate::look_ups::{Found, LookUps};
 use desk_book::{Row, Table};
 use desk_model::{AccountRow, AuthorizationRow, AuthzStatus, Listed, Nonce, OrderRow, OrderStatus};
-use model_lives::{AccountsWhere, AuthorizationsWhere, NoncesWhere, OrdersWhere};
+use model_parts::{AccountsWhere, AuthorizationsWhere, NoncesWhere, OrdersWhere};
 use std::alloc::{AllocError, Global};
 
 /// What leads to rows of a table.

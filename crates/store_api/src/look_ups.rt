@@ -1,19 +1,19 @@
 //! Look-ups in the tables of a desk, and its rows one by one.
 ghost use Rattle.std.specs.Prelude.{◌≡◌, [], ◌∷◌, map};
-ghost use Rattle.model_lives.specs.LookUps.{accounts_where, authorizations_where, nonces_where, orders_where, AreWaiting, bare_authorizations};
-ghost use Rattle.model_lives.specs.LookUps.{authorizations_numbered, orders_listing, orders_numbered, orders_processing, owners_of, summaries_of};
+ghost use Rattle.model_parts.specs.LookUps.{accounts_where, authorizations_where, nonces_where, orders_where, AreWaiting, bare_authorizations};
+ghost use Rattle.model_parts.specs.LookUps.{authorizations_numbered, orders_listing, orders_numbered, orders_processing, owners_of, summaries_of};
 ghost use Rattle.store_columns.specs.Flat.{listed_rows, without_listed};
 ghost use Rattle.std.specs.List.{flat_map};
 ghost use Rattle.model_laws.specs.Ordered.{IsOrdered};
 ghost use Rattle.store_api.specs.Sight.{Gives};
-ghost use Rattle.model_lives.specs.Above.{accounts_above, authorizations_above, challenges_above, first_of, orders_above};
+ghost use Rattle.model_parts.specs.Above.{accounts_above, authorizations_above, challenges_above, first_of, orders_above};
 ghost use Rattle.desk_model.specs.{Kept.EachOf, Tables.Tables};
 ghost use Rattle.store_book.specs.IsBook.{IsBook};
 
 use crate::fault::StorageFault;
 use crate::kept::Kept;
 use desk_model::{AccountRow, AuthorizationRow, ChallengeRow, Listed, Meta, Nonce, OrderRow};
-use model_lives::{AccountsWhere, AuthorizationsWhere, NoncesWhere, OrdersWhere};
+use model_parts::{AccountsWhere, AuthorizationsWhere, NoncesWhere, OrdersWhere};
 use std::alloc::Global;
 use store_columns::{JoinedChallenge, Owned};
 

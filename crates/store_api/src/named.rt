@@ -1,16 +1,16 @@
 //! What an ask names, by numbers and by the names of a new order, and the rows that it names.
 ghost use Rattle.std.specs.Prelude.{◌≡◌, ◌∷◌, [], option_to_list, IfOk, Err, IfErr, OnOk, option_map, if◌then◌else◌};
 ghost use Rattle.desk_model.specs.Asked.{asks_authorizations, asks_orders, target_authorizations, target_orders};
-ghost use Rattle.model_lives.specs.Loaded.{account_numbers, authorization_numbers, challenge_numbers, new_keys, of_key, order_numbers, serials};
-ghost use Rattle.model_lives.specs.Loaded.{target_accounts, target_authorization_numbers, target_challenge_numbers, target_order_numbers};
-ghost use Rattle.model_lives.specs.Loaded.{authorizations_asked_of, authorizations_for, found_nonces, keys as keys_of};
+ghost use Rattle.model_parts.specs.Loaded.{account_numbers, authorization_numbers, challenge_numbers, new_keys, of_key, order_numbers, serials};
+ghost use Rattle.model_parts.specs.Loaded.{target_accounts, target_authorization_numbers, target_challenge_numbers, target_order_numbers};
+ghost use Rattle.model_parts.specs.Loaded.{authorizations_asked_of, authorizations_for, found_nonces, keys as keys_of};
 ghost use Rattle.store_api.specs.Naming.{Names};
 ghost use Rattle.std.specs.List.{filter, flat_map};
 ghost use Rattle.model_laws.specs.Placing.{puts};
 ghost use Rattle.store_api.specs.Finding.{Finds, LacksMemory};
 ghost use Rattle.desk_model.specs.Name.{same_name};
 ghost use Rattle.identifiers.specs.Parsed.{ask_of};
-ghost use Rattle.model_lives.specs.LookUps.{accounts_with_key, authorizations_numbered, owners_of};
+ghost use Rattle.model_parts.specs.LookUps.{accounts_with_key, authorizations_numbered, owners_of};
 
 use crate::fault::StorageFault;
 use crate::links::{LeadsTo, add_each, add_found, add_linked};
@@ -18,7 +18,7 @@ use crate::look_ups::{Found, LookUps};
 use desk_book::{Row, Table};
 use desk_model::{AccountRow, AuthorizationRow, DnsName, Jwk, Nonce, OfficeAsk, Policy, Target};
 use identifiers::ParsedAsk;
-use model_lives::{AccountsWhere, AuthorizationsWhere, NoncesWhere};
+use model_parts::{AccountsWhere, AuthorizationsWhere, NoncesWhere};
 use std::alloc::{AllocError, Global};
 
 /// What an ask names, by number.

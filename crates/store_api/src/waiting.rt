@@ -1,8 +1,8 @@
 //! The authorizations of which a challenge waits for the validator, with those alone that wait.
 ghost use Rattle.std.specs.Prelude.{◌≡◌, ◌++◌, ◌∷◌, [], filter, map, IfErr, IfOk, OnOk};
 ghost use Rattle.model_laws.specs.Ordered.{Ascends, IsOrdered};
-ghost use Rattle.model_lives.specs.IsEnough.{has_work};
-ghost use Rattle.model_lives.specs.Thinned.{waiting_challenges, with_challenges};
+ghost use Rattle.model_parts.specs.IsEnough.{has_work};
+ghost use Rattle.model_parts.specs.Thinned.{waiting_challenges, with_challenges};
 ghost use Rattle.store_api.specs.Finding.{Finds, LacksMemory};
 ghost use Rattle.store_api.specs.Needing.{lacking};
 ghost use Rattle.store_api.specs.Nesting.{joined, nested};

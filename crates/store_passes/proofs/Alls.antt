@@ -5,7 +5,7 @@ use Rattle.desk_model.specs.{Derived.insert_challenge, Derived.sorted_challenges
 use Rattle.desk_model.specs.{declared.rows.ChallengeRow.ChallengeRow, declared.rows.OrderRow.OrderRow}
 use Rattle.model_laws.specs.{Distinct.Distinct, Ordered.Ascends}
 use Rattle.model_laws.proofs.{Basics.each-append, RowLists.Above, RowLists.ascends_above}
-use Rattle.model_lives.specs.Above.{orders_above}
+use Rattle.model_parts.specs.Above.{orders_above}
 use Rattle.store_passes.specs.{InOrder.IsInOrder, Laws.BooksAreInOrder, Laws.KindsMakeAllFaults, Left.faults_above, Left.faults_of}
 use Rattle.store_passes.specs.{declared.fault_kind.FaultKind.FaultKind}
 use Rattle.store_passes.proofs.Rows.{all_above}

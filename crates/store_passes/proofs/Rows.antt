@@ -2,7 +2,7 @@
 use Rattle.std.proofs.Common.{◌≡◌, ◌<◌, ◌≤◌, ℕ, ◌+◌, List, [], ◌∷◌, ◌++◌, true, cond, refl, sym, arith, ltb, Option, Result, IfOk, rules}
 use Rattle.std.proofs.lemmas.{Result.IfOk-weaker, Bool.lt-ltb}
 use Rattle.model_laws.specs.Ordered.{Ascends}
-use Rattle.model_lives.specs.Above.{above, first_of}
+use Rattle.model_parts.specs.Above.{above, first_of}
 use Rattle.store_passes.specs.{Left.IsRowAfter, Stepping.IsFirst}
 
 -- rows that ascend from above a number are all above it

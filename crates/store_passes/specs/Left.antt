@@ -3,7 +3,7 @@ use Rattle.std.specs.Prelude.{◌≡◌, ℕ, List, [], ◌∷◌, Option, Some,
 use Rattle.std.specs.List.{flat_map}
 use Rattle.desk_model.specs.Derived.{account_faults, authorization_faults, challenge_faults, order_faults, sorted_challenges}
 use Rattle.desk_model.specs.{Tables.Tables, declared.rows.StatusFault.StatusFault}
-use Rattle.model_lives.specs.Above.{above, accounts_above, authorizations_above, challenges_above, orders_above}
+use Rattle.model_parts.specs.Above.{above, accounts_above, authorizations_above, challenges_above, orders_above}
 use Rattle.store_passes.specs.declared.fault_kind.FaultKind.{FaultKind}
 use Rattle.store_passes.specs.declared.fault_kind.FaultKind.TheVariants as kind
 

@@ -1,7 +1,7 @@
 -- One step of a pass.
 use Rattle.std.specs.Prelude.{◌≡◌, ℕ, List, [], ◌∷◌, ◌++◌, Option, Some, None}
 use Rattle.desk_model.specs.declared.rows.StatusFault.{StatusFault}
-use Rattle.model_lives.specs.Above.{first_of}
+use Rattle.model_parts.specs.Above.{first_of}
 use Rattle.store_book.specs.RowFaults.{listed_fault}
 use Rattle.store_passes.specs.declared.checked.Checked.{Checked}
 

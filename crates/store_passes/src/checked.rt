@@ -3,7 +3,7 @@ ghost use Rattle.std.specs.Prelude.{◌≡◌, ◌<◌, ℕ, List, IfOk, IfSome}
 ghost use Rattle.std.specs.List.{flat_map};
 ghost use Rattle.desk_model.specs.Derived.{account_faults, authorization_faults, challenge_faults};
 ghost use Rattle.desk_model.specs.declared.rows.StatusFault.{StatusFault as Fault};
-ghost use Rattle.model_lives.specs.Above.{above as rows_above};
+ghost use Rattle.model_parts.specs.Above.{above as rows_above};
 ghost use Rattle.store_api.specs.Sight.{ForTables, Reads};
 ghost use Rattle.store_passes.specs.{InOrder.IsInOrder, Left.faults_above, Stepping.Steps};
 ghost use Rattle.store_book.specs.RowFaults.{listed_fault};

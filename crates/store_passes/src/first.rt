@@ -1,6 +1,6 @@
 //! The first of the rows above a number.
 ghost use Rattle.std.specs.Prelude.{◌≡◌, ◌<◌, List, IfErr, IfOk, IfSome};
-ghost use Rattle.model_lives.specs.Above.{above as rows_above, first_of};
+ghost use Rattle.model_parts.specs.Above.{above as rows_above, first_of};
 ghost use Rattle.store_passes.specs.Stepping.{IsFirst};
 
 use desk_book::Row;

@@ -7,7 +7,7 @@ ghost use Rattle.desk_model.specs.Document.{rows_of};
 ghost use Rattle.store_api.specs.Sight.{ForTables, Reads};
 
 use desk_model::{AuthorizationRow, AuthzStatus, DnsName, Listed};
-use model_lives::AuthorizationsWhere;
+use model_parts::AuthorizationsWhere;
 use std::alloc::{AllocError, Global};
 use store_api::{Found, LookUps, StorageFault};
 

@@ -1,6 +1,6 @@
 //! The orders of a desk, one after the other.
 ghost use Rattle.std.specs.Prelude.{◌≡◌, ◌<◌, ◌^◌, IfOk, IfErr, OnSome, None, Some};
-ghost use Rattle.model_lives.specs.Above.{orders_above};
+ghost use Rattle.model_parts.specs.Above.{orders_above};
 ghost use Rattle.store_api.specs.Sight.{ForTables, IsCaused, LeavesUnchanged, Reads};
 ghost use Rattle.store_api.specs.declared.fault.StorageFault.{StorageFault as Fault};
 ghost use Rattle.desk_model.specs.Tables.{Tables};

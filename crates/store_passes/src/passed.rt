@@ -1,6 +1,6 @@
 //! The rows of a table, one after the other.
 ghost use Rattle.std.specs.Prelude.{◌<◌, ◌≡◌, IfOk, IfSome, List};
-ghost use Rattle.model_lives.specs.Above.{above as rows_above, first_of};
+ghost use Rattle.model_parts.specs.Above.{above as rows_above, first_of};
 ghost use Rattle.store_api.specs.Sight.{ForTables, Reads, Gives};
 ghost use Rattle.store_passes.specs.{Left.IsRowAfter, InOrder.IsInOrder};
 ghost use Rattle.desk_model.specs.{Tables.Tables, Derived.sorted_challenges};

@@ -1,5 +1,5 @@
 use Rattle.std.proofs.Common.{◌-◌, ◌^◌}
-use Rattle.model_lives.specs.Above.{above}
+use Rattle.model_parts.specs.Above.{above}
 use Rattle.store_api.specs.Sight.{ForTables, Unchanged}
 use Rattle.app_page.proofs.Showing.{ShowsSoFar}
 use Rattle.app_page.proofs.tables.write_rows.Given as goal

@@ -1,6 +1,6 @@
 use Rattle.std.proofs.{Common.◌++◌, Common.◌-◌, Common.◌^◌, Common.length, Common.min, Common.subst, Common.take, KnownBytes.Appends-trans}
 use Rattle.std.specs.{Io.KnownBytes.Appends, List.filter, List.flat_map}
-use Rattle.model_lives.specs.Above.{above}
+use Rattle.model_parts.specs.Above.{above}
 use Rattle.app_page.specs.Page.{count_html}
 use Rattle.app_page.proofs.tables.write_table.Goals as goal
 

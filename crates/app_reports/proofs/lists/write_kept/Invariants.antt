@@ -1,5 +1,5 @@
 use Rattle.std.proofs.Common.{◌-◌, ◌^◌}
-use Rattle.model_lives.specs.Above.{above}
+use Rattle.model_parts.specs.Above.{above}
 use Rattle.store_api.specs.Sight.{ForTables, Unchanged}
 use Rattle.app_reports.proofs.Listing.{ListsSoFar}
 use Rattle.app_reports.proofs.lists.write_kept.Given as goal

@@ -1,6 +1,6 @@
 use Rattle.std.proofs.Common.{rules, ◌≡◌, ◌∙◌, ◌∷◌, ◌+◌, ◌-◌, ◌^◌, ap, arith, cond, min, replicate, subst, sym}
 use Rattle.std.specs.Prelude.{◌==◌, slice_index}
-use Rattle.model_lives.specs.Above.{above}
+use Rattle.model_parts.specs.Above.{above}
 use Rattle.store_passes.proofs.{Alls.books_in_order, Rows.all_above}
 use Rattle.store_passes.specs.Left.{IsRowAfter}
 use Rattle.app_reports.proofs.Counting.{counts_more, counts_none, zeros}

@@ -1,5 +1,5 @@
 use Rattle.std.proofs.{Common.◌≡◌, Common.length, Common.ap, Common.◌∙◌, Common.rules, lemmas.List.length-map}
-use Rattle.model_lives.specs.LookUps.{orders_processing}
+use Rattle.model_parts.specs.LookUps.{orders_processing}
 use Rattle.store_columns.specs.Flat.{without_listed}
 use Rattle.app_tasks.proofs.snapshot.count_orders.Goals as goal
 

@@ -1,4 +1,4 @@
-use Rattle.model_lives.specs.declared.queries.AuthorizationsWhere.TheVariants as authorizations_by
+use Rattle.model_parts.specs.declared.queries.AuthorizationsWhere.TheVariants as authorizations_by
 use Rattle.sql_read.proofs.{LookUpReadings.authorizations_asked, LookUpRows.authorizations_find, Looking.looked_as, Looking.query_as}
 use Rattle.sql_read.proofs.authorizations.bare_authorizations.Goals as goal
 

@@ -1,5 +1,5 @@
 use Rattle.model_laws.proofs.Keeps.{each-filter}
-use Rattle.model_lives.specs.LookUps.{authorizations_where}
+use Rattle.model_parts.specs.LookUps.{authorizations_where}
 use Rattle.sql_read.proofs.{LookUpReadings.authorizations_asked, LookUpRows.authorizations_find, UnderLemmas.authorizations_have}
 use Rattle.sql_read.proofs.Looking.{finds_as, looked, query_as}
 use Rattle.sql_read.proofs.authorizations.find_authorizations.Goals as goal

@@ -1,5 +1,5 @@
 use Rattle.model_laws.proofs.Keeps.{each-filter}
-use Rattle.model_lives.specs.LookUps.{orders_where}
+use Rattle.model_parts.specs.LookUps.{orders_where}
 use Rattle.sql_read.proofs.{LookUpReadings.orders_asked, LookUpRows.orders_find, UnderLemmas.orders_have, Looking.finds_as, Looking.looked, Looking.query_as}
 use Rattle.sql_read.proofs.orders.find_orders.Goals as goal
 

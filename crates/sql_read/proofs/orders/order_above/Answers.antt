@@ -1,5 +1,5 @@
 use Rattle.model_laws.proofs.Keeps.{each-filter}
-use Rattle.model_lives.specs.Above.{first_of, orders_above}
+use Rattle.model_parts.specs.Above.{first_of, orders_above}
 use Rattle.sql_read.proofs.Looking.{finds_as, looked, query_as}
 use Rattle.sql_read.proofs.{LookUpReadings.order_above_reading, LookUpRows.order_above_find, Lists.each_take, UnderLemmas.orders_have}
 use Rattle.sql_read.proofs.orders.order_above.Goals as goal

@@ -1,4 +1,4 @@
-use Rattle.model_lives.specs.declared.queries.OrdersWhere.TheVariants as orders_by
+use Rattle.model_parts.specs.declared.queries.OrdersWhere.TheVariants as orders_by
 use Rattle.sql_read.proofs.{LookUpReadings.orders_asked, LookUpRows.orders_find, Looking.looked_as, Looking.query_as}
 use Rattle.sql_read.proofs.orders.processing_orders.Goals as goal
 

@@ -1,7 +1,7 @@
 use Rattle.std.proofs.Common.{◌≡◌, [], ◌∷◌, ap, map, subst, sym, ◌∙◌}
 use Rattle.store_columns.specs.Flat.{listed_rows}
 use Rattle.desk_model.specs.Kept.{EachOf}
-use Rattle.model_lives.specs.LookUps.{bare_authorizations, orders_processing}
+use Rattle.model_parts.specs.LookUps.{bare_authorizations, orders_processing}
 use Rattle.sql_schema.specs.declared.listed.TheConstants as ord_authz
 use Rattle.sql_read.proofs.{LookUpReadings.places_reading, LookUpReadings.text, Looking.finds_as, Looking.looked, Looking.query_as, PlaceFound.are_places}
 use Rattle.sql_read.proofs.{PlaceFound.place_rows, PlaceFound.places_find}

@@ -1,7 +1,7 @@
 use Rattle.std.proofs.Common.{◌≡◌, [], ◌∷◌, ap, map, subst, sym, ◌∙◌}
 use Rattle.desk_model.specs.Kept.{EachOf}
 use Rattle.model_laws.proofs.Basics.{each_all}
-use Rattle.model_lives.specs.LookUps.{AreWaiting, bare_authorizations}
+use Rattle.model_parts.specs.LookUps.{AreWaiting, bare_authorizations}
 use Rattle.sql_schema.specs.declared.challenges.TheConstants as chall
 use Rattle.sql_read.proofs.{JoinFound.are_found, JoinFound.joined_find, JoinFound.waiting_rows, LookUpReadings.joined_reading, LookUpReadings.text}
 use Rattle.sql_read.proofs.Looking.{finds_as, looked, query_as}

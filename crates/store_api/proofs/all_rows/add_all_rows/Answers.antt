@@ -4,11 +4,11 @@ use Rattle.model_laws.proofs.RowLists.{puts_ascending}
 use Rattle.store_api.proofs.Found.{fails_behind, finds_as, finds_fourth, finds_put, finds_then}
 use Rattle.store_api.proofs.all_rows.add_all_rows.Goals as goal
 use Rattle.desk_model.specs.declared.{objects.Nonce.Nonce, rows.AccountRow.AccountRow, rows.AuthorizationRow.AuthorizationRow, rows.OrderRow.OrderRow}
-use Rattle.model_lives.specs.LookUps.{accounts_where, authorizations_where, nonces_where, orders_where}
-use Rattle.model_lives.specs.declared.queries.AccountsWhere.TheVariants as accounts
-use Rattle.model_lives.specs.declared.queries.AuthorizationsWhere.TheVariants as authorizations
-use Rattle.model_lives.specs.declared.queries.NoncesWhere.TheVariants as nonces
-use Rattle.model_lives.specs.declared.queries.OrdersWhere.TheVariants as orders
+use Rattle.model_parts.specs.LookUps.{accounts_where, authorizations_where, nonces_where, orders_where}
+use Rattle.model_parts.specs.declared.queries.AccountsWhere.TheVariants as accounts
+use Rattle.model_parts.specs.declared.queries.AuthorizationsWhere.TheVariants as authorizations
+use Rattle.model_parts.specs.declared.queries.NoncesWhere.TheVariants as nonces
+use Rattle.model_parts.specs.declared.queries.OrdersWhere.TheVariants as orders
 
 -- a test that each row passes leaves all of them
 all_pass : {X : Type 0} (xs : List X) → filter (λ x. true) xs ≡ xs

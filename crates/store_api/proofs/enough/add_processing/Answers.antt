@@ -2,8 +2,8 @@ use Rattle.std.proofs.Common.{ap, map, ◌∙◌, arith}
 use Rattle.desk_model.specs.{Order.is_processing, declared.rows.AuthorizationRow.AuthorizationRow, declared.rows.OrderRow.OrderRow}
 use Rattle.model_laws.proofs.RowLists.{ascends_filter}
 use Rattle.model_laws.specs.Placing.{puts}
-use Rattle.model_lives.proofs.WorkLoading.{processing_loaded}
-use Rattle.model_lives.specs.LookUps.{orders_processing}
+use Rattle.model_parts.proofs.WorkLoading.{processing_loaded}
+use Rattle.model_parts.specs.LookUps.{orders_processing}
 use Rattle.store_api.proofs.{Found.finds_third, Places.places_put, Places.standing_at, Readings.reads_unchanged, Readings.unchanged_here}
 use Rattle.store_api.proofs.enough.add_processing.Goals as goal
 use Rattle.store_api.specs.Needing.{lacking}

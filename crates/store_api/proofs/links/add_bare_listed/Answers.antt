@@ -4,7 +4,7 @@ use Rattle.store_api.proofs.{Found.fails_behind, Found.finds_then, Missing.missi
 use Rattle.store_api.proofs.links.add_bare_listed.Goals as goal
 use Rattle.store_api.specs.Needing.{missings}
 use Rattle.desk_model.specs.{Derived.numbers_of, declared.rows.AuthorizationRow.AuthorizationRow, declared.rows.OrderRow.OrderRow}
-use Rattle.model_lives.specs.LookUps.{bare_authorizations}
+use Rattle.model_parts.specs.LookUps.{bare_authorizations}
 
 pub loop-order-preserved : goal.loop-order-preserved
 loop-order-preserved g c =

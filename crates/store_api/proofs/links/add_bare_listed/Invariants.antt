@@ -2,7 +2,7 @@ use Rattle.std.proofs.Common.{◌≡◌}
 use Rattle.std.specs.{Prelude.Ok, List.flat_map}
 use Rattle.store_api.specs.{Finding.Finds, Needing.missings}
 use Rattle.desk_model.specs.{Derived.numbers_of, declared.rows.AuthorizationRow.AuthorizationRow, declared.rows.OrderRow.OrderRow}
-use Rattle.model_lives.specs.LookUps.{bare_authorizations}
+use Rattle.model_parts.specs.LookUps.{bare_authorizations}
 use Rattle.store_api.proofs.links.add_bare_listed.Given as goal
 
 abbrev pub invariant-loop-order : goal.invariant-loop-order

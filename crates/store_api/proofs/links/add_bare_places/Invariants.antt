@@ -2,7 +2,7 @@ use Rattle.std.proofs.Common.{◌≡◌, drop}
 use Rattle.std.specs.Prelude.{Ok}
 use Rattle.store_api.specs.{Finding.Finds, Needing.missings}
 use Rattle.desk_model.specs.{Derived.numbers_of, declared.rows.AuthorizationRow.AuthorizationRow}
-use Rattle.model_lives.specs.LookUps.{bare_authorizations}
+use Rattle.model_parts.specs.LookUps.{bare_authorizations}
 use Rattle.store_api.proofs.links.add_bare_places.Given as goal
 
 abbrev pub invariant-loop-place : goal.invariant-loop-place

@@ -9,10 +9,10 @@ use Rattle.desk_model.specs.{Derived.numbers_of, Tables.Tables, declared.objects
 use Rattle.desk_model.specs.{declared.rows.AuthorizationRow.AuthorizationRow, declared.rows.OrderRow.OrderRow}
 use Rattle.store_api.proofs.minimal_part.add_minimal.Goals as goal
 use Rattle.store_api.specs.Needing.{lacking, missings, with_named}
-use Rattle.model_lives.proofs.MinimalPartLoading.{loaded_minimal}
-use Rattle.model_lives.specs.LookUps.{accounts_numbered, bare_authorizations, summaries_of, orders_numbered}
-use Rattle.model_lives.specs.MinimalPartLoaded.{moved_authorizations, opened_orders, restated_authorizations}
-use Rattle.model_lives.specs.Loaded.{authorizations_asked_of, found_nonces}
+use Rattle.model_parts.proofs.MinimalPartLoading.{loaded_minimal}
+use Rattle.model_parts.specs.LookUps.{accounts_numbered, bare_authorizations, summaries_of, orders_numbered}
+use Rattle.model_parts.specs.MinimalPartLoaded.{moved_authorizations, opened_orders, restated_authorizations}
+use Rattle.model_parts.specs.Loaded.{authorizations_asked_of, found_nonces}
 
 pub returns : goal.returns
 returns g c =

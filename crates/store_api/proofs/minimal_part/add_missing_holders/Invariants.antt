@@ -2,7 +2,7 @@ use Rattle.std.proofs.Common.{◌≡◌, map}
 use Rattle.std.specs.Prelude.{Ok}
 use Rattle.store_api.specs.{Finding.Finds, Needing.missings}
 use Rattle.desk_model.specs.declared.rows.{AccountRow.AccountRow, AuthorizationRow.AuthorizationRow}
-use Rattle.model_lives.specs.LookUps.{accounts_numbered}
+use Rattle.model_parts.specs.LookUps.{accounts_numbered}
 use Rattle.store_api.proofs.minimal_part.add_missing_holders.Given as goal
 
 abbrev pub invariant-loop-row : goal.invariant-loop-row

@@ -6,7 +6,7 @@ use Rattle.store_api.proofs.minimal_part.add_opened.Goals as goal
 use Rattle.store_api.specs.Needing.{orders_by}
 use Rattle.desk_model.specs.declared.rows.OrderRow.{OrderRow}
 use Rattle.desk_model.specs.declared.status.OrderStatus.TheVariants as order
-use Rattle.model_lives.specs.{Loaded.listing_orders, Loaded.past_orders, LookUps.orders_past}
+use Rattle.model_parts.specs.{Loaded.listing_orders, Loaded.past_orders, LookUps.orders_past}
 
 pub returns : goal.returns
 returns g c =

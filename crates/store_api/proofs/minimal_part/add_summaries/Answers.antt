@@ -4,7 +4,7 @@ use Rattle.store_api.proofs.{Found.fails_behind, Found.finds_as, Found.finds_int
 use Rattle.store_api.proofs.minimal_part.add_summaries.Goals as goal
 use Rattle.store_api.specs.Needing.{lacking}
 use Rattle.desk_model.specs.declared.rows.{AccountRow.AccountRow, OrderRow.OrderRow}
-use Rattle.model_lives.specs.LookUps.{summaries_of}
+use Rattle.model_parts.specs.LookUps.{summaries_of}
 
 pub loop-account-preserved : goal.loop-account-preserved
 loop-account-preserved g c =

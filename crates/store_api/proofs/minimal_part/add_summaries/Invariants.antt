@@ -2,7 +2,7 @@ use Rattle.std.proofs.Common.{◌≡◌}
 use Rattle.std.specs.{Prelude.Ok, List.flat_map}
 use Rattle.store_api.specs.{Finding.Finds, Needing.lacking}
 use Rattle.desk_model.specs.declared.rows.{AccountRow.AccountRow, OrderRow.OrderRow}
-use Rattle.model_lives.specs.LookUps.{summaries_of}
+use Rattle.model_parts.specs.LookUps.{summaries_of}
 use Rattle.store_api.proofs.minimal_part.add_summaries.Given as goal
 
 abbrev pub invariant-loop-account : goal.invariant-loop-account

@@ -2,7 +2,7 @@ use Rattle.std.proofs.Common.{refl}
 use Rattle.std.specs.List.{flat_map}
 use Rattle.store_api.proofs.{Found.fails_behind, Found.finds_then, Gathered.gathered}
 use Rattle.desk_model.specs.declared.rows.{AccountRow.AccountRow, AuthorizationRow.AuthorizationRow}
-use Rattle.model_lives.specs.Loaded.{authorizations_for}
+use Rattle.model_parts.specs.Loaded.{authorizations_for}
 use Rattle.store_api.proofs.named.add_each_named.Goals as goal
 
 pub loop-account-preserved : goal.loop-account-preserved

@@ -2,7 +2,7 @@ use Rattle.std.proofs.Common.{◌≡◌}
 use Rattle.std.specs.{Prelude.Ok, List.flat_map}
 use Rattle.model_laws.specs.Placing.{puts}
 use Rattle.store_api.specs.Finding.{Finds}
-use Rattle.model_lives.specs.Loaded.{authorizations_for}
+use Rattle.model_parts.specs.Loaded.{authorizations_for}
 use Rattle.store_api.proofs.named.add_each_named.Given as goal
 
 abbrev pub invariant-loop-account : goal.invariant-loop-account

@@ -1,7 +1,7 @@
 use Rattle.std.proofs.Common.{add-one, ap, arith, drop-cons}
 use Rattle.store_api.proofs.{Found.finds_then, Gathered.gathered}
 use Rattle.desk_model.specs.declared.rows.AuthorizationRow.{AuthorizationRow}
-use Rattle.model_lives.specs.Loaded.{authorizations_for}
+use Rattle.model_parts.specs.Loaded.{authorizations_for}
 use Rattle.store_api.proofs.named.add_named.Goals as goal
 
 pub loop-name-preserved : goal.loop-name-preserved

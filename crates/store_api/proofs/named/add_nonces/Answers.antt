@@ -4,7 +4,7 @@ use Rattle.identifiers.specs.Parsed.{ask_of}
 use Rattle.store_api.proofs.{Found.finds_failing, Found.finds_put, Found.finds_then, Found.listed_as, Gathered.put_by, Gathered.put_then}
 use Rattle.store_api.proofs.named.add_nonces.Goals as goal
 use Rattle.desk_model.specs.declared.objects.Nonce.{Nonce}
-use Rattle.model_lives.specs.{Loaded.serials, LookUps.nonces_before, LookUps.nonces_numbered}
+use Rattle.model_parts.specs.{Loaded.serials, LookUps.nonces_before, LookUps.nonces_numbered}
 
 pub returns : goal.returns
 returns g c =

@@ -3,7 +3,7 @@ use Rattle.std.specs.List.{list_any}
 use Rattle.desk_model.specs.declared.rows.AuthorizationRow.{AuthorizationRow}
 use Rattle.model_laws.proofs.Basics.{each-map}
 use Rattle.model_laws.specs.Ordered.{Ascends}
-use Rattle.model_lives.specs.LookUps.{bare_authorizations}
+use Rattle.model_parts.specs.LookUps.{bare_authorizations}
 use Rattle.store_api.proofs.{WaitingRows.nested_working, WaitingRows.numbered, WaitingRows.working_ascend, Lacking.bare_working, Found.finds_then}
 use Rattle.store_api.proofs.{Missing.lacking_missings, Readings.reads_unchanged, Readings.unchanged_here}
 use Rattle.store_api.specs.{Needing.lacking, Needing.missings, Nesting.nested}

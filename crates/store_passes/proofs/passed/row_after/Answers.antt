@@ -1,4 +1,4 @@
-use Rattle.model_lives.specs.Above.{above}
+use Rattle.model_parts.specs.Above.{above}
 use Rattle.store_passes.proofs.{Alls.books_in_order, Rows.row_is_after}
 use Rattle.store_passes.proofs.passed.row_after.Goals as goal
 

@@ -1,0 +1,10 @@
+pub mod Above
+pub mod AnswersAs
+pub mod IsEnough
+pub mod IsPart
+pub mod Loaded
+pub mod LookUps
+pub mod MinimalPart
+pub mod MinimalPartLoaded
+pub mod PartsLaws
+pub mod Thinned
