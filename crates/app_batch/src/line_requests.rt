@@ -1,5 +1,5 @@
 //! What the lines of a batch ask: their requests, written and read as those of connections are.
-ghost use Rattle.std.specs.Prelude.{◌≡◌, IfOk, string_bytes};
+ghost use Rattle.std.specs.Prelude.{◌≡◌, ◌++◌, IfOk, OnOk, string_bytes};
 ghost use Rattle.http_wire.specs.Spelled.{Spells};
 ghost use Rattle.app_batch.specs.LineRequests.{IsRequestOf, are_visible, head_bytes, request_bytes};
 
@@ -54,16 +54,26 @@ fn spelled_by(alloc: Global, routes: &mut Routes, line: &Line) -> Result<Request
 fn request_bytes(alloc: Global, line: &Line) -> Result<Vec<u8>, AllocError>
     ensures { IfOk result (λ v. v.items ≡ request_bytes line.now) }
 {
-    let body = line.body.as_str();
-    let head = head_text(alloc, line.method.as_str(), line.path.as_str(), body.len())?;
-    let mut bytes = head.into_bytes();
-    bytes.extend_from_slice(body.as_bytes())?;
-    Ok(bytes)
+    let (method, path, body) = (line.method.as_str(), line.path.as_str(), line.body.as_str());
+    let len = method
+        .len()
+        .saturating_add(path.len())
+        .saturating_add(body.len());
+    let mut text = String::with_capacity(alloc, len.saturating_add(ROOM))?;
+    push_head(&mut text, method, path, body.len())?;
+    text.push_str(body)?;
+    Ok(text.into_bytes())
 }
 
-// The head of a request with a body of so many bytes.
-fn head_text(alloc: Global, method: &str, path: &str, len: usize) -> Result<String, AllocError>
-    ensures { IfOk result (λ s. string_bytes s ≡ head_bytes method.now path.now len) }
+// The most bytes of a head beside its method and path.
+const ROOM: usize = 56;
+
+// Adds the head of a request with a body of so many bytes.
+fn push_head(text: &mut String, method: &str, path: &str, len: usize) -> Result<(), AllocError>
+    ensures { OnOk result (string_bytes text.new ≡ string_bytes text.old ++ head_bytes method.now path.now len) }
 {
-    format!(in alloc; "{method} {path} HTTP/1.1\r\nContent-Length: {len}\r\n\r\n")
+    write!(
+        text,
+        "{method} {path} HTTP/1.1\r\nContent-Length: {len}\r\n\r\n"
+    )
 }

@@ -124,20 +124,43 @@ fn whole_of(value: &Value, name: &str) -> Option<u64>
     value.get(name).and_then(Value::as_u64)
 }
 
-/// The output line of a reply: status, Location, nonce and body, separated by one space.
+/// The output line of a reply: status, Location, nonce and body, separated by one space. It has room for the end of the line.
 ///
 /// # Errors
 ///
 /// Where there is no memory for it.
-#[tactic(auto, using(crate::proofs::Spelled::spaced, std::proofs::Common::string_bytes))]
 pub fn reply_line(alloc: Global, reply: &Reply) -> Result<String, AllocError>
     ensures { IfOk result (λ s. string_bytes s ≡ line_text reply.now) }
+{
+    match &reply.body {
+        Body::Empty => line_behind(alloc, reply, "-"),
+        Body::Json(document) => line_behind(alloc, reply, document.text()),
+        Body::Problem(problem) => {
+            let text = problem_text(alloc, problem)?;
+            line_behind(alloc, reply, text.as_str())
+        }
+        Body::Certificate(bytes) => {
+            let text = certificate_text(alloc, bytes.as_slice())?;
+            line_behind(alloc, reply, text.as_str())
+        }
+    }
+}
+
+// The most bytes of a status and of a nonce, with the spaces and the end of a line.
+const ROOM: usize = 48;
+
+// The line of a reply whose body has this text.
+#[tactic(auto, using(crate::proofs::Spelled::spaced, std::proofs::Common::string_bytes))]
+fn line_behind(alloc: Global, reply: &Reply, body: &str) -> Result<String, AllocError>
+    ensures { IfOk result (λ s. body.now ≡ body_text reply.now.body → string_bytes s ≡ line_text reply.now) }
 {
     let status = reply.status;
     let location = field(&reply.location);
     let nonce = field(&reply.nonce);
-    let body = body_text(alloc, &reply.body)?;
-    format!(in alloc; "{status} {location} {nonce} {body}")
+    let len = location.len().saturating_add(body.len());
+    let mut line = String::with_capacity(alloc, len.saturating_add(ROOM))?;
+    write!(line, "{status} {location} {nonce} {body}")?;
+    Ok(line)
 }
 
 // A text, or a hyphen where there is none.
@@ -147,18 +170,6 @@ fn field(text: &Option<Text>) -> &str
     match text {
         Some(text) => text.as_str(),
         None => "-",
-    }
-}
-
-// The text of a body in its line.
-fn body_text(alloc: Global, body: &Body) -> Result<String, AllocError>
-    ensures { IfOk result (λ s. string_bytes s ≡ body_text body.now) }
-{
-    match body {
-        Body::Empty => String::from_str(alloc, "-"),
-        Body::Json(document) => String::from_str(alloc, document.text()),
-        Body::Problem(problem) => problem_text(alloc, problem),
-        Body::Certificate(bytes) => certificate_text(alloc, bytes.as_slice()),
     }
 }
 
