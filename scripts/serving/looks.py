@@ -16,7 +16,7 @@ import time
 
 from scripts.files.stops import Desk
 from scripts.serving.served import DIRECTORY, Server, directory_reply, reached, received, refusal, request, reset, stranger
-from scripts.trying import begin, change, finish, line_of, order_of, put, run, run_on_full, see, workspace
+from scripts.trying import begin, change, finish, put, run, run_on_full, see, workspace
 
 # The words, each with the options that it is tried with.
 ACCOUNTS = [("--account", number) for number in ("1", "3", str(2**62))]
