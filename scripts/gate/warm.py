@@ -42,9 +42,13 @@ def give(rt, crates):
     for crate in crates:
         if not all(it.is_built() for it in crate.below()):
             continue
-        if crate.is_built() or kept.give(crate, False, kept.key(crate)):
-            kept.is_built(crate)
-            write(f"{crate.folder}/out/rlib/stamp", crate.stamp())
+        if not crate.is_built():
+            # What stands there may be linked to a kept library of another text, which would be written into.
+            rt.clear(f"{crate.folder}/out/rlib")
+            if not kept.give(crate, False, kept.key(crate)):
+                continue
+        kept.is_built(crate)
+        write(f"{crate.folder}/out/rlib/stamp", crate.stamp())
     for it in held:
         os.close(it)
 
